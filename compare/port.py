@@ -28,7 +28,7 @@ EDITS = [
     ("search", 1, "INF - MAX_PLY as Score", "inf() - max_ply() as Score"),
     ("search", 1, "-INF + (ply as Score)", "-inf() + (ply as Score)"),
     ("search", 1, "ply >= MAX_PLY", "ply >= max_ply()"),
-    ("history", 4, "HH_MAX as i32", "hh_max() as i32"),
+    ("history", 3, "HH_MAX as i32", "hh_max() as i32"),
     ("history", 1, "const HH_BONUS_CLAMP: Score = HH_MAX / 4;\n", ""),
     ("history", 1, "HH_BONUS_CLAMP as i32", "(hh_max() / 4) as i32"),
 
@@ -66,10 +66,6 @@ EDITS = [
                  "    pub moves_level: u16,\n    pub moves_remaining: u16,\n"
                  "    pub time_remaining: u64,\n    pub time_increment: u16,\n"
                  "    pub last_nodes_count: u64,\n    pub is_finished: Arc<AtomicBool>,\n"),
-    ("history", 1, "fn delta(depth: Depth,", "pub fn delta(depth: Depth,"),
-    ("history", 1, "const HH_BONUS_QUADRA:", "pub const HH_BONUS_QUADRA:"),
-    ("history", 1, "const HH_BONUS_LINEAR:", "pub const HH_BONUS_LINEAR:"),
-    ("history", 1, "const HH_BONUS_OFFSET:", "pub const HH_BONUS_OFFSET:"),
 ]
 
 

@@ -1,0 +1,5 @@
+pub mod Answers
+pub mod Refusals
+pub mod Ticks
+pub mod Promises
+pub mod Lines

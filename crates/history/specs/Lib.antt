@@ -1,0 +1,2 @@
+pub mod Gravity
+pub mod Entries

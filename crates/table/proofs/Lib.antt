@@ -1,0 +1,13 @@
+pub mod Finding
+pub mod Keep
+pub mod Again
+pub mod Others
+pub mod Cleared
+pub mod Fill
+pub mod Size
+pub mod Balance
+pub mod Count
+pub mod Division
+pub mod Shares
+pub mod Answers
+pub mod Examples
