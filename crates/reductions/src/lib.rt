@@ -1,11 +1,11 @@
 // The reductions of late moves: a constant table, a row for each depth and a column for each count of moves.
-mod table;
+mod lmr;
 
-use crate::table::LMR;
+use crate::lmr::LMR;
 ghost use mathlib.Core.Path.{_≡_};
 ghost use Rattle.reductions.specs.Reductions.{reductionOf};
 
-// How much shallower a move is searched that comes after `moves` others; outside of the table nothing is taken off.
+// How much shallower the moves-th move at a depth is searched; outside of the table nothing is taken off.
 pub fn reduction(depth: usize, moves: usize) -> u8
     ensures { λ r. ⌜ r ≡ reductionOf depth moves ⌝ }
 {
