@@ -1,0 +1,3 @@
+pub mod Patting
+pub mod Steps
+pub mod Walks

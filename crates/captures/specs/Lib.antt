@@ -1,0 +1,3 @@
+pub mod Step
+pub mod Captures
+pub mod Reach

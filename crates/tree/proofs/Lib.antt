@@ -1,0 +1,12 @@
+pub mod LittleEndian
+pub mod Every
+pub mod Places
+pub mod Blocked
+pub mod Laid
+pub mod Parents
+pub mod Levels
+pub mod Depth
+pub mod Within
+pub mod Fielded
+pub mod Accepted
+pub mod Examples

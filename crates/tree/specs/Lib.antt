@@ -1,0 +1,8 @@
+pub mod Pick
+pub mod Bytes
+pub mod Node
+pub mod Blocks
+pub mod Layout
+pub mod Fields
+pub mod Level
+pub mod Refusal

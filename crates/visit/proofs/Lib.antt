@@ -1,0 +1,4 @@
+pub mod Tested
+pub mod Numbers
+pub mod Probing
+pub mod Credits
