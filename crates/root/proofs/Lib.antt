@@ -1,0 +1,4 @@
+pub mod Asked
+pub mod Depths
+pub mod Steps
+pub mod Walks

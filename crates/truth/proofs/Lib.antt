@@ -1,0 +1,10 @@
+pub mod Closed
+pub mod KeepsCaptures
+pub mod Keeps
+pub mod Settled
+pub mod Ranges
+pub mod Tells
+pub mod TruthCaptures
+pub mod Truth
+pub mod Demand3
+pub mod Examples
