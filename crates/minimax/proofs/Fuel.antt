@@ -1,13 +1,12 @@
 -- More fuel changes nothing: on an accepted tree any two fuels that reach the nodes left give one capture value and one minimax. Assumes nothing.
-use mathlib.Core.Path.{_≡_, refl, sym, ap, ap₂, _∙_}
+use mathlib.Core.Path.{_≡_, refl, ap, ap₂}
 use mathlib.Core.Bool.{Bool, true, false}
 use mathlib.Core.List.{List}
 use Prim.Native.Nat.{ℕ, zero, suc, _+_, _-_, _≤_, _<_}
 use native.Mathlib.Omega.{arith}
 use lib.Dec.{leb, eqb}
-use lib.IntN.{ℤ, pos, negℤ}
-use Rattle.score.specs.Wrap.{maxZ}
-use Rattle.tree.specs.Node.{firstOf, countOf, evalOf, inCheck, isDraw}
+use lib.IntN.{ℤ, negℤ}
+use Rattle.tree.specs.Node.{countOf, evalOf, inCheck, isDraw}
 use Rattle.tree.specs.Blocks.{nodesOf}
 use Rattle.tree.proofs.Accepted.{child-above, child-in}
 use Rattle.state.specs.declared.Settings.{Settings}

@@ -1,3 +1,4 @@
 pub mod Examples
 pub mod Fuel
 pub mod Equations
+pub mod Greatest

@@ -8,7 +8,6 @@ use lib.Dec.{leb}
 use lib.IntN.{ℤ}
 use Rattle.transposition.specs.declared.Bound.{Bound}
 use Rattle.table.specs.declared.Stats.{Stats}
-use Rattle.table.specs.Table.{lookupOf, storeOf}
 use Rattle.state.specs.declared.Settings.{Settings}
 use Rattle.state.specs.declared.State.{State}
 use Rattle.state.specs.State.{pollOf, countNode, withStats, seenOf, keepOf}

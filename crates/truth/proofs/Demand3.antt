@@ -1,8 +1,8 @@
 -- The proof of demand 3: from images back to integers, and from settings in range to those of `Settled`. Assumes nothing.
-use mathlib.Core.Path.{_≡_, refl, sym, subst}
+use mathlib.Core.Path.{_≡_, refl, subst}
 use mathlib.Core.Bool.{true, false, false≢true}
 use mathlib.Core.List.{List}
-use Prim.Native.Nat.{ℕ, zero, suc, _+_, _-_, _≤_, _<_}
+use Prim.Native.Nat.{ℕ, zero, suc, _+_, _≤_, _<_}
 use native.Mathlib.Omega.{arith}
 use borrow.Author.Tests.{le-leb, leb-true, ltb-true}
 use lib.IntN.{ℤ, pos, negsuc, negℤ}
@@ -18,7 +18,7 @@ use Rattle.search.specs.Reach.{Reach, need}
 use Rattle.search.specs.Search.{visitF}
 use Rattle.minimax.specs.Minimax.{depthAt, minimaxV, minimax}
 use Rattle.minimax.proofs.Fuel.{minimax-is}
-use Rattle.truth.specs.Demand3.{Tells3, Plain, InRange, Windowed, Demand3}
+use Rattle.truth.specs.Demand3.{Tells3, InRange, Windowed, Demand3}
 use Rattle.truth.proofs.Settled.{plainOf, plain-is, Known, At}
 use Rattle.truth.proofs.Ranges.{pos-off, minimax-in}
 use Rattle.truth.proofs.Tells.{Tells, Window}
@@ -102,16 +102,19 @@ module _
       (cases n (a .alpha) (a .beta) score (minimaxV k y t (a .node) d (a .ply)) (ok .infHigh) w (minimax-in n set t ok k (a .node) d (a .ply) place)
       (visit-ok n set t ok k s words hist a place w e))
 
-pub demand3 : Demand3
-demand3 set t p i acc a r w k s words hist f =
-    let z = natural (set .inf) (i .inf-least) (i .inf-most) in
-    let ok : Known (z .n) (set .«max_ply») t =
+known : (set : Settings) (t : List ℕ) → InRange set → AcceptedBy set t → (z : Natural (set .inf)) → Known (z .n) (set .«max_ply») t
+known set t i acc z =
     record {
       accepted = subst (λ (x : ℤ). treeRefusal x (set .«max_ply») t ≡ 0) (z .is) acc;
       infLow = z .low;
       infHigh = z .high;
       plyHigh = i .ply-most;
-    } in
+    }
+
+pub demand3 : Demand3
+demand3 set t p i acc a r w k s words hist f =
+    let z = natural (set .inf) (i .inf-least) (i .inf-most) in
+    let ok = known set t i acc z in
     let win = window (z .n) (a .alpha) (a .beta) (omega arith) (z .high) (subst (λ (x : ℤ). Windowed x (a .alpha) (a .beta)) (z .is) w) in
     subst (λ (y : Settings). Goal (z .n) set t ok a r win k s words hist f y) (plain-is (z .n) set (z .is) p)
     (settled (z .n) set t ok a r win k s words hist f)

@@ -1,26 +1,23 @@
 -- What every visit keeps: a statement of the state that a poll, a count and a change of age and counters keep is kept by a whole visit,
 -- whatever the switches. One law for each function of the node search's definition, by its clauses. Assumes nothing.
-use mathlib.Core.Path.{_≡_, refl}
 use mathlib.Core.Bool.{Bool, true, false}
 use mathlib.Core.List.{List}
 use Prim.Native.Nat.{ℕ, zero, suc, _+_}
-use lib.Dec.{leb, eqb}
-use lib.IntN.{ℤ, pos}
-use Rattle.tree.specs.Node.{countOf, isDraw}
+use lib.Dec.{eqb}
+use lib.IntN.{ℤ}
+use Rattle.tree.specs.Node.{countOf}
 use Rattle.state.specs.declared.Settings.{Settings}
 use Rattle.state.specs.declared.State.{State}
 use Rattle.state.specs.declared.Out.{Out}
 use Rattle.state.specs.declared.Consulted.{Consulted}
 use Rattle.state.specs.declared.order.Place.{Place}
-use Rattle.state.specs.State.{Over, pollOf, countNode}
-use Rattle.state.specs.Order.{childOf}
 use Rattle.visit.specs.declared.Args.{Args}
 use Rattle.visit.specs.declared.Here.{Here}
 use Rattle.visit.specs.declared.Loc.{Loc}
 use Rattle.visit.specs.declared.Turn.{Turn}
 use Rattle.visit.specs.declared.Entered.{Entered}
 use Rattle.visit.specs.declared.Entered.the-variants.{Answer, Moves}
-use Rattle.visit.specs.Carry.{With, with}
+use Rattle.visit.specs.Carry.{With}
 use Rattle.visit.specs.Enter.{extendOf, reverseIf, cutIf, probeOf, drawIf, enterOf, hintedOf}
 use Rattle.visit.specs.Window.{countedOf, raiseIf, judgeOf}
 use Rattle.visit.specs.Cutoff.{cutoffOf}

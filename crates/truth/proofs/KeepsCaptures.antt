@@ -1,18 +1,16 @@
 -- What a capture visit keeps, whatever the switches: every statement of the state that is closed under its steps. One law for each function of its
 -- definition, by its clauses. Assumes nothing.
-use mathlib.Core.Path.{_≡_, refl}
 use mathlib.Core.Bool.{Bool, true, false}
 use mathlib.Core.List.{List}
 use Prim.Native.Nat.{ℕ, zero, suc, _+_}
-use lib.Dec.{leb, eqb}
-use lib.IntN.{ℤ, pos}
+use lib.IntN.{ℤ}
 use Rattle.tree.specs.Node.{countOf, isQuiet}
 use Rattle.state.specs.declared.Settings.{Settings}
 use Rattle.state.specs.declared.State.{State}
 use Rattle.state.specs.declared.Out.{Out}
 use Rattle.state.specs.declared.Consulted.{Consulted}
 use Rattle.state.specs.declared.order.Place.{Place}
-use Rattle.state.specs.State.{Over, pollOf, countNode}
+use Rattle.state.specs.State.{Over}
 use Rattle.state.specs.Order.{childOf}
 use Rattle.captures.specs.declared.step.Capture.{Capture}
 use Rattle.captures.specs.declared.step.Here.{Here}

@@ -1,18 +1,17 @@
 -- Every capture value and every minimax of an accepted tree lies within plus and minus INF, so nothing wraps; and the greatest of some values by images
 -- (`off`). Assumes nothing.
-use mathlib.Core.Path.{_≡_, refl, ap, _∙_}
+use mathlib.Core.Path.{_≡_, refl}
 use mathlib.Core.Bool.{Bool, true, false}
 use mathlib.Core.List.{List}
 use Prim.Native.Nat.{ℕ, zero, suc, _+_, _-_, _≤_, _<_, max}
 use native.Mathlib.Omega.{arith}
 use lib.Dec.{leb, eqb}
 use lib.IntN.{ℤ, pos, negℤ, _+ℤ_}
-use Rattle.score.specs.Wrap.{neg16, add16, maxZ}
+use Rattle.score.specs.Wrap.{add16, maxZ}
 use Rattle.score.proofs.Order.{off}
 use Rattle.score.proofs.Range.{InZ, zero-off, neg-off, max-off, mate-off, wrap-in, neg16-is}
-use Rattle.tree.specs.Node.{firstOf, countOf, evalOf, inCheck, isDraw}
+use Rattle.tree.specs.Node.{countOf, evalOf, inCheck, isDraw}
 use Rattle.tree.specs.Blocks.{nodesOf}
-use Rattle.tree.specs.Level.{levelOf}
 use Rattle.tree.proofs.Accepted.{eval-low, eval-high, level-most}
 use Rattle.state.specs.declared.Settings.{Settings}
 use Rattle.visit.specs.Finish.{gameEnd}

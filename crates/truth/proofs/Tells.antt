@@ -1,8 +1,8 @@
 -- What a score found in a window tells of a value, over images (`off`): `min beta v ≤ s ≤ max alpha v`. That is demand 3's three cases in two lines that
 -- `omega` reads. Assumes nothing.
-use mathlib.Core.Path.{_≡_, refl, sym}
+use mathlib.Core.Path.{_≡_, sym}
 use mathlib.Core.Bool.{Bool, true, false, _&&_, true≢false}
-use Prim.Native.Nat.{ℕ, zero, suc, _+_, _-_, _≤_, _<_, max, min}
+use Prim.Native.Nat.{ℕ, suc, _-_, _≤_, _<_, max, min}
 use native.Mathlib.Omega.{arith}
 use lib.IntN.{ℤ, pos}
 use lib.Signed.{ltZ}

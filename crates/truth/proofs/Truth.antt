@@ -3,7 +3,7 @@
 use mathlib.Core.Path.{_≡_, refl, sym, ap, _∙_}
 use mathlib.Core.Bool.{Bool, true, false, _&&_, true≢false, false≢true}
 use mathlib.Core.List.{List}
-use Prim.Native.Nat.{ℕ, zero, suc, _+_, _-_, _≤_, _<_, max, min}
+use Prim.Native.Nat.{ℕ, zero, suc, _+_, _-_, _≤_, _<_, max}
 use native.Mathlib.Nat.{sub-zero}
 use native.Mathlib.Omega.{arith}
 use borrow.Author.Tests.{eq-eqb, ne-eqb}
@@ -31,13 +31,13 @@ use Rattle.visit.specs.Enter.{withDepth, extended, extendOf, reverseFutile, rev
 use Rattle.visit.specs.Window.{countedOf, fullOf, firstBest, againOf, insideOf, raiseIf, judgeOf}
 use Rattle.visit.specs.Prune.{futileOf, lateOf, reductionIf}
 use Rattle.visit.specs.Cutoff.{cutoffOf}
-use Rattle.visit.specs.Finish.{gameEnd, storedOf, endIf, finishIf, finishOf}
+use Rattle.visit.specs.Finish.{storedOf, endIf, finishIf, finishOf}
 use Rattle.search.specs.Search.{Visit, captureOf, widenIf, againIf, reducedF, judged, futileIf, turnIf, nextIf, nextF, walkF, deepenIf, enteredF, depthIf, stopIf, visitF}
-use Rattle.minimax.specs.Minimax.{childAt, greatest, none, captureV, checked, endOf, ofChildren, ofDraw, ofDepth, depthAt, minimaxV}
+use Rattle.minimax.specs.Minimax.{childAt, greatest, none, checked, endOf, ofChildren, ofDraw, ofDepth, depthAt, minimaxV}
 use Rattle.truth.proofs.Closed.{Stopped, stays, back}
 use Rattle.truth.proofs.Keeps as keeps
 use Rattle.truth.proofs.Settled.{plainOf, Known, At, kid-at}
-use Rattle.truth.proofs.Ranges.{bestIf, bestOf, zero-in, neg-z, greatest-off, end-in, end-is, minimax-in}
+use Rattle.truth.proofs.Ranges.{bestOf, zero-in, neg-z, greatest-off, end-in, end-is, minimax-in}
 use Rattle.truth.proofs.Tells.{Tells, Window, same-tells, neg-tells, neg-window, raised-window, null-window, null-tells, outside-tells}
 use Rattle.truth.proofs.TruthCaptures.{Truth, captures-ok}
 
@@ -160,8 +160,9 @@ module _ (n : ℕ) (set : Settings) (t : List ℕ) (ok : Known n (set .«max_ply
         let eo = ap off el in
         let win = raised-window n (ok .infHigh) alpha (h .beta) (p .window) (l .alpha) m (sym eo ∙ p .isMax) (omega (arith, p .below)) in
         let r = v s words hist (fullOf h l c) in
-        let told = kid .tells (1 - h .side) (neg16 (h .beta)) (neg16 (l .alpha)) s words hist (neg-window n (ok .infHigh) (l .alpha) (h .beta) win)
-        (judged-back h pl c i go alpha m u l2 mv r (p .keeps) e) in
+        let before = judged-back h pl c i go alpha m u l2 mv r (p .keeps) e in
+        let down = neg-window n (ok .infHigh) (l .alpha) (h .beta) win in
+        let told = kid .tells (1 - h .side) (neg16 (h .beta)) (neg16 (l .alpha)) s words hist down before in
         let te = neg-tells n (ok .infHigh) (l .alpha) (h .beta) win (r .it .score) (off y) (kid .inRange) told in
         judge-ok h pl c i go alpha m u l2 mv r (65536 - off y) w p (rw el te) ew e
 
@@ -173,8 +174,9 @@ module _ (n : ℕ) (set : Settings) (t : List ℕ) (ok : Known n (set .«max_ply
     unfolding widenIf
     widen-ok true l mv r eb p nu = full-ok l l mv (r .it .state) (r .words) (r .history) refl p
     widen-ok false l mv r eb p nu = λ e.
-        judge-ok h pl c i go alpha m u l mv r (65536 - off y) w p
-        (outside-tells n (l .alpha) (h .beta) (neg16 (r .it .score)) (65536 - off y) _ _ refl refl (sym eb) (nu (judged-back h pl c i go alpha m u l mv r (p .keeps) e))) ew e
+        let told = nu (judged-back h pl c i go alpha m u l mv r (p .keeps) e) in
+        let te = outside-tells n (l .alpha) (h .beta) (neg16 (r .it .score)) (65536 - off y) _ _ refl refl (sym eb) told in
+        judge-ok h pl c i go alpha m u l mv r (65536 - off y) w p te ew e
 
     -- a move that is not the first: the null window, then perhaps the whole one
     other-ok
@@ -183,9 +185,10 @@ module _ (n : ℕ) (set : Settings) (t : List ℕ) (ok : Known n (set .«max_ply
     unfolding futileIf reducedF reductionIf lateOf againIf againOf insideOf
     other-ok l words hist p =
         let win = point-window h go l alpha m u p in
+        let down = null-window n (ok .infHigh) (l .alpha) (h .beta) win in
         rw (sub-zero (h .depth - 1)) (widen-ok _ l (moveOf t c) _ refl p (λ e.
-        null-tells n (ok .infHigh) (l .alpha) (h .beta) win _ (off y) (kid .inRange)
-        (kid .tells (1 - h .side) (sub16 (neg16 (l .alpha)) (pos 1)) (neg16 (l .alpha)) (l .state) words hist (null-window n (ok .infHigh) (l .alpha) (h .beta) win) e)))
+        let told = kid .tells (1 - h .side) (sub16 (neg16 (l .alpha)) (pos 1)) (neg16 (l .alpha)) (l .state) words hist down e in
+        null-tells n (ok .infHigh) (l .alpha) (h .beta) win _ (off y) (kid .inRange) told))
 
     turn-ok
         : (b : Bool) (l : Loc) (words : List ℕ) (hist : List ℤ) → b ≡ false → Point h go l alpha m u

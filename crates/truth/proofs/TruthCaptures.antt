@@ -3,10 +3,10 @@
 use mathlib.Core.Path.{_≡_, refl, sym, _∙_}
 use mathlib.Core.Bool.{Bool, true, false, true≢false}
 use mathlib.Core.List.{List}
-use Prim.Native.Nat.{ℕ, zero, suc, _+_, _-_, _≤_, _<_, max, min}
+use Prim.Native.Nat.{ℕ, zero, suc, _+_, _-_, _≤_, _<_, max}
 use native.Mathlib.Omega.{arith}
-use lib.Dec.{leb, eqb}
-use lib.IntN.{ℤ, pos}
+use lib.Dec.{leb}
+use lib.IntN.{ℤ}
 use lib.Signed.{ltZ, leZ}
 use Rattle.score.specs.Wrap.{neg16}
 use Rattle.score.proofs.Order.{off}
@@ -127,9 +127,11 @@ module _ (n : ℕ) (set : Settings) (t : List ℕ) (ok : Known n (set .«max_ply
   turn-ok false v h l c words go y alpha m u w kid p ew = λ e.
       let win = point-window h go l alpha m u p in
       let r = v (countNode (l .state)) words (downOf h l c) in
-      let told = kid .tells (neg16 (h .beta)) (neg16 (l .alpha)) (countNode (l .state)) words (neg-window n (ok .infHigh) (l .alpha) (h .beta) win)
-      (judged-back (r .words) h l c (r .it) go (p .keeps) e) in
-      judge-ok (r .words) h l c (r .it) go alpha m (65536 - off y) u w p (neg-tells n (ok .infHigh) (l .alpha) (h .beta) win (r .it .score) (off y) (kid .inRange) told) (omega arith) e
+      let before = judged-back (r .words) h l c (r .it) go (p .keeps) e in
+      let down = neg-window n (ok .infHigh) (l .alpha) (h .beta) win in
+      let told = kid .tells (neg16 (h .beta)) (neg16 (l .alpha)) (countNode (l .state)) words down before in
+      let te = neg-tells n (ok .infHigh) (l .alpha) (h .beta) win (r .it .score) (off y) (kid .inRange) told in
+      judge-ok (r .words) h l c (r .it) go alpha m (65536 - off y) u w p te (omega arith) e
 
   -- a node's children, by their values
   abbrev Kids : Visit → ℕ → ℕ → ℕ → (ℕ → ℤ) → Type 0
