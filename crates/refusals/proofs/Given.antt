@@ -12,19 +12,19 @@ use Rattle.refusals.specs.First.{first, unless, treeRows, searchRows, en
 
 -- a row: given where its rule fails, passed where it holds
 
-unless-fails : (a : Bool) (n later : ℕ) → a ≡ false → n ≡ unless a n later
+pub unless-fails : (a : Bool) (n later : ℕ) → a ≡ false → n ≡ unless a n later
 unless-fails true n later e = absurd (true≢false e)
 unless-fails false n later e = refl
 
-unless-holds : (a : Bool) (n later : ℕ) → a ≡ true → later ≡ unless a n later
+pub unless-holds : (a : Bool) (n later : ℕ) → a ≡ true → later ≡ unless a n later
 unless-holds true n later e = refl
 unless-holds false n later e = absurd (false≢true e)
 
-first-some : (n later : ℕ) → (n ≡ 0 → ⊥) → n ≡ first n later
+pub first-some : (n later : ℕ) → (n ≡ 0 → ⊥) → n ≡ first n later
 first-some zero later h = absurd (h refl)
 first-some (suc n) later h = refl
 
-first-none : (n later : ℕ) → n ≡ 0 → later ≡ first n later
+pub first-none : (n later : ℕ) → n ≡ 0 → later ≡ first n later
 first-none zero later e = refl
 first-none (suc n) later e = absurd (omega arith)
 

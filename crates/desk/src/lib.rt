@@ -1,0 +1,2 @@
+// The desk's public entries: each takes any bytes and numbers and gives its result, or the number of 01's refusal.
+pub mod records; // records.rt: the tree's check and a node's record
