@@ -1,2 +1,3 @@
 // The desk's public entries: each takes any bytes and numbers and gives its result, or the number of 01's refusal.
 pub mod records; // records.rt: the tree's check and a node's record
+pub mod root_search; // root_search.rt: the root search

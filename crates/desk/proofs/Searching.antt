@@ -1,12 +1,12 @@
 -- Which refusal a search gets, by the rows' tests, and what is asked of the layers below where it gets none. Assumes nothing.
 use mathlib.Core.Path.{_≡_, refl, sym, ap, _∙_}
-use mathlib.Core.Bool.{Bool, true, false, true≢false, false≢true}
+use mathlib.Core.Bool.{Bool, true, false, false≢true}
 use mathlib.Core.List.{List}
-use Prim.Native.Nat.{ℕ, zero, suc, _+_, _≤_, _<_}
+use Prim.Native.Nat.{ℕ, zero, suc, _≤_}
 use native.Mathlib.Omega.{arith}
 use lib.IntN.{ℤ, pos, negsuc, natAbs}
 use lib.Signed.{leZ}
-use borrow.Author.Tests.{leb-true}
+use borrow.Author.Tests.{leb-true, le-leb}
 use Rattle.table.specs.declared.Stats.{Stats}
 use Rattle.state.specs.declared.Settings.{Settings}
 use Rattle.visit.specs.Carry.{With, with}
@@ -16,8 +16,8 @@ use Rattle.root.specs.Root.{rootSearch}
 use Rattle.refusals.specs.Rows.{rangeRight}
 use Rattle.refusals.specs.First.{first, unless, searchRows}
 use Rattle.refusals.proofs.Given.{first-some, first-none}
-use Rattle.refusals.proofs.Meaning.{search-settings-right, search-accepted, search-words, search-entries, set-hh-max-above, set-side-most, start-least, start-end, end-most}
-use Rattle.desk.specs.Searches.{rootRefusal, rootRefused, rootGiven, rootAnswer, rootEntry}
+use Rattle.refusals.proofs.Meaning.{search-settings-right, search-accepted, search-words, search-entries, set-hh-max-above}
+use Rattle.desk.specs.RootEntry.{rootRefusal, rootRefused, rootGiven, rootAnswer, rootEntry}
 
 -- an integer from 0 on is its size
 pub from-zero : (z : ℤ) → leZ (pos 0) z ≡ true → z ≡ pos (natAbs z)
@@ -25,7 +25,7 @@ from-zero (pos n) e = refl
 from-zero (negsuc n) e = absurd (false≢true e)
 
 pub from-one : (z : ℤ) → leZ (pos 1) z ≡ true → leZ (pos 0) z ≡ true
-from-one (pos n) e = refl
+from-one (pos n) e = le-leb 0 n (omega arith)
 from-one (negsuc n) e = absurd (false≢true e)
 
 pub size-least : (z : ℤ) → leZ (pos 1) z ≡ true → 1 ≤ natAbs z
@@ -37,7 +37,7 @@ size-most (pos m) n e f = leb-true m n f
 size-most (negsuc m) n e f = absurd (false≢true e)
 
 pub from-start : (x y : ℤ) → leZ (pos 1) x ≡ true → leZ x y ≡ true → leZ (pos 0) y ≡ true
-from-start (pos m) (pos n) e f = refl
+from-start (pos m) (pos n) e f = le-leb 0 n (omega arith)
 from-start (pos m) (negsuc n) e f = absurd (false≢true f)
 from-start (negsuc m) y e f = absurd (false≢true e)
 

@@ -4,7 +4,7 @@ ghost use mathlib.Core.Bool.{true};
 ghost use lib.IntN.{pos, natAbs};
 ghost use lib.Signed.{leZ};
 ghost use Rattle.visit.specs.Carry.{with};
-ghost use Rattle.desk.specs.Searches.{rootRefusal, rootResult, rootRefused, rootEntry};
+ghost use Rattle.desk.specs.RootEntry.{rootRefusal, rootResult, rootRefused, rootEntry};
 use root::step::Depths;
 use state::Settings;
 use table::Stats;
@@ -73,7 +73,7 @@ fn root_result(d: Depths) -> RootResult
 }
 
 // A depth of the range, as the search takes it.
-pub fn unsigned(depth: i8) -> u8
+fn unsigned(depth: i8) -> u8
     requires { ⌜ leZ (pos 0) depth ≡ true ⌝ }
     ensures { λ r. ⌜ r ≡ natAbs depth ⌝ }
 {
@@ -96,6 +96,14 @@ pub fn search_root(
     if r != 0 {
         return root_refused(r, stats);
     }
-    let d = root::search_root(tree, words, history, set, stats, unsigned(start), unsigned(end));
+    let d = root::search_root(
+        tree,
+        words,
+        history,
+        set,
+        stats,
+        unsigned(start),
+        unsigned(end),
+    );
     root_result(d)
 }
