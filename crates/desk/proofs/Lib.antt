@@ -1,2 +1,3 @@
 pub mod Handed
 pub mod Searching
+pub mod Starting

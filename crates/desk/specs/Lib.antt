@@ -1,2 +1,4 @@
+pub mod NodeEntry
 pub mod Records
 pub mod RootEntry
+pub mod Told

@@ -1,5 +1,5 @@
--- The search entries: which refusal each gets, and what it answers and leaves. Assumes nothing.
-use mathlib.Core.Bool.{Bool, true, false, _&&_}
+-- The node search's entry: which refusal it gets, and what it answers and leaves. Assumes nothing.
+use mathlib.Core.Bool.{Bool, false, _&&_}
 use mathlib.Core.List.{List}
 use Prim.Native.Nat.{ℕ, zero, suc, _-_, _%_}
 use lib.Dec.{eqb}
@@ -13,13 +13,10 @@ use Rattle.state.specs.declared.Out.{Out}
 use Rattle.visit.specs.declared.Args.{Args}
 use Rattle.visit.specs.Carry.{With, with}
 use Rattle.search.specs.Search.{nodeSearch}
-use Rattle.root.specs.declared.step.Depths.{Depths}
-use Rattle.root.specs.Root.{rootSearch}
-use Rattle.refusals.specs.Rows.{historyRight, nodeRight, windowRight, depthRight, plyRight, rangeRight}
+use Rattle.refusals.specs.Rows.{historyRight, nodeRight, windowRight, depthRight, plyRight}
 use Rattle.refusals.specs.First.{first, unless, searchRows}
 use Rattle.desk.specs.declared.node_search.Start.{Start}
 use Rattle.desk.specs.declared.node_search.NodeResult.{NodeResult}
-use Rattle.desk.specs.declared.root_search.RootResult.{RootResult}
 
 -- row 7, of all that a node search takes
 unfoldable pub startRight : List ℕ → Settings → Start → Bool
@@ -30,10 +27,6 @@ startRight t set at =
 unfoldable pub nodeRefusal : List ℕ → List ℕ → List ℤ → Settings → Start → ℕ
 nodeRefusal t words history set at =
     first (searchRows t words history set) (unless (historyRight (set .«hh_max») history) 9 (unless (startRight t set at) 7 0))
-
--- 01, Refusal numbers: 6, 1 to 5, 8, 7; row 9 is "not tested by the root search"
-unfoldable pub rootRefusal : List ℕ → List ℕ → List ℤ → Settings → ℤ → ℤ → ℕ
-rootRefusal t words history set start end = first (searchRows t words history set) (unless (rangeRight start end) 7 0)
 
 -- 01, History and clock: "the side changes at each level below the tree's root"
 unfoldable pub sideAt : List ℕ → Settings → ℕ → ℕ
@@ -65,29 +58,3 @@ nodeAnswer (suc r) t set c at words history = with (nodeRefused (suc r) c) words
 
 abbrev pub nodeEntry : List ℕ → Settings → Stats → Start → List ℕ → List ℤ → With NodeResult
 nodeEntry t set c at words history = nodeAnswer (nodeRefusal t words history set at) t set c at words history
-
--- 01, Visits: "Its result is score, move, depth, node count and stop mark, where depth is the last one whose move was saved"
-abbrev pub rootResult : Depths → RootResult
-rootResult d =
-    record {
-      refusal = 0;
-      score = d .best .score;
-      mv = d .best .mv;
-      depth = d .best .depth;
-      nodes = d .state .nodes;
-      stopped = d .state .stop;
-      stats = d .state .stats;
-    }
-
-abbrev pub rootRefused : ℕ → Stats → RootResult
-rootRefused r c = record { refusal = r; score = pos 0; mv = 0; depth = 0; nodes = 0; stopped = false; stats = c }
-
-abbrev pub rootGiven : With Depths → With RootResult
-rootGiven d = with (rootResult (d .it)) (d .words) (d .history)
-
-unfoldable pub rootAnswer : ℕ → List ℕ → Settings → Stats → ℤ → ℤ → List ℕ → List ℤ → With RootResult
-rootAnswer zero t set c start end words history = rootGiven (rootSearch t set c (natAbs start) (natAbs end) words history)
-rootAnswer (suc r) t set c start end words history = with (rootRefused (suc r) c) words history
-
-abbrev pub rootEntry : List ℕ → Settings → Stats → ℤ → ℤ → List ℕ → List ℤ → With RootResult
-rootEntry t set c start end words history = rootAnswer (rootRefusal t words history set start end) t set c start end words history

@@ -7,9 +7,8 @@ ghost use Prim.Native.Nat.{_≤_, _<_};
 ghost use Rattle.tree.specs.Blocks.{Blocked, nodesOf};
 ghost use Rattle.tree.specs.Layout.{Laid};
 ghost use Rattle.visit.specs.Carry.{with};
-ghost use Rattle.desk.specs.Searches.{startRight, nodeRefusal, sideAt, fresh, argsOf, nodeResult, nodeRefused, nodeEntry};
+ghost use Rattle.desk.specs.NodeEntry.{startRight, nodeRefusal, sideAt, fresh, argsOf, nodeResult, nodeRefused, nodeEntry};
 ghost use Rattle.desk.specs.Told.{NodeTold};
-use crate::root_search::unsigned;
 use state::Out;
 use state::Settings;
 use state::State;
@@ -88,13 +87,12 @@ fn args_of(tree: &[u8], set: Settings, at: Start) -> Args
 {
     let node = at.node as usize;
     let side = side_at(tree, set, node);
-    let depth = unsigned(at.depth);
     Args {
         node: node,
         side: side,
         alpha: at.alpha,
         beta: at.beta,
-        depth: depth,
+        depth: at.depth as u8,
         ply: at.ply as usize,
     }
 }
