@@ -1,3 +1,4 @@
 pub mod Patting
 pub mod Steps
 pub mod Walks
+pub mod Fuel

@@ -13,9 +13,7 @@ use Rattle.state.specs.Kid.{Kid}
 use Rattle.state.specs.Order.{childOf}
 use Rattle.state.proofs.Kids.{kid}
 use Rattle.state.proofs.Ordered.{Among, place-among}
-use Rattle.visit.specs.declared.Args.{Args}
-use Rattle.search.specs.Reach.{Reach, need}
-use Rattle.search.specs.Search.{whole}
+use Rattle.search.specs.Reach.{Reach}
 use Rattle.root.specs.declared.step.Best.{Best}
 use Rattle.root.specs.declared.step.Walked.{Walked}
 use Rattle.root.specs.Step.{placeRoot, downOf}
@@ -24,10 +22,6 @@ use Rattle.root.specs.Step.{placeRoot, downOf}
 pub to-move : (set : Settings) (t : List ℕ) (depth : ℕ) (w : Walked) (c : ℕ) → depth ≤ 31 → Kid t 0 c → Reach t (downOf set depth w c)
 to-move set t depth w c most k =
     record { in-tree = k .in-tree; side-most = omega arith; depth-most = omega arith; ply-most = omega arith }
-
--- the fuel of the whole tree is enough for any visit
-pub enough : (t : List ℕ) (a : Args) → Reach t a → need t (a .node) (a .depth) < whole t
-enough t a r = omega (arith, r .in-tree, r .depth-most)
 
 root-among : (t : List ℕ) (best : Best) → Among (countOf t 0) (placeRoot t best)
 unfolding placeRoot

@@ -1,3 +1,4 @@
 pub mod Turns
 pub mod Visits
 pub mod Asked
+pub mod Fuel

@@ -5,8 +5,9 @@ use Rattle.state.proofs.Kids.{blocked}
 use Rattle.visit.specs.Carry.{with}
 use Rattle.search.specs.Reach.{Reach}
 use Rattle.search.specs.Search.{whole, nodeSearch}
+use Rattle.search.proofs.Fuel.{enough}
 use Rattle.root.specs.declared.step.Walked.{Walked}
-use Rattle.root.proofs.Asked.{to-move, enough}
+use Rattle.root.proofs.Asked.{to-move}
 use Rattle.root.proofs.Walks.{turn-is}
 use Rattle.root.proofs.root_turn.Statement.{statement}
 use Rattle.root.proofs.root_turn.Tie as tie

@@ -1,13 +1,11 @@
 -- `truth::node_search` meets its contract: the node search at the fuel that is always enough, and demand 3 about it. Assumes nothing.
 use mathlib.Core.Path.{_≡_, sym, ap, subst}
-use Prim.Native.Nat.{_<_}
-use native.Mathlib.Omega.{arith}
 use borrow.Author.Needs.{needs}
 use denote.Ref.{now}
 use Rattle.state.specs.declared.Out.{Out}
 use Rattle.visit.specs.Carry.{With, with}
-use Rattle.search.specs.Reach.{need}
 use Rattle.search.specs.Search.{whole, nodeSearch}
+use Rattle.search.proofs.Fuel.{enough}
 use Rattle.truth.specs.Demand3.{Told}
 use Rattle.truth.proofs.Demand3.{demand3}
 use Rattle.truth.proofs.node_search.Statement.{statement}
@@ -26,17 +24,14 @@ module _ (c : tie.After-search-node) where
   abbrev start : tie.Start
   start = c .before .before .before .before .before
 
-  enough : need (now (start .args .tree)) (start .args .a .node) (start .args .a .depth) < whole (now (start .args .tree))
-  enough = omega (arith, start .pre .1 .depth-most)
-
   searched : with (c .search-node .result) (c .search-node .last .1 .0) (c .search-node .last .1 .1 .0) ≡ nodeSearch (now (start .args .tree)) (start .args .set) (start .args .st) (now (start .args .words)) (now (start .args .history)) (start .args .a)
-  searched = c .search-node .ensures (whole (now (start .args .tree))) enough
+  searched = let t = now (start .args .tree) in c .search-node .ensures (whole t) (enough t (start .args .a) (start .pre .1))
 
   told : Told (start .args .set) (now (start .args .tree)) (start .args .a) (c .search-node .result)
   told =
       let t = now (start .args .tree) in
       subst (Told (start .args .set) t (start .args .a)) (sym (ap (λ (x : With Out). x .it) searched))
-      (λ p i w. demand3 (start .args .set) t p i (start .pre .0 .accepted) (start .args .a) (start .pre .1) w (whole t) (start .args .st) (now (start .args .words)) (now (start .args .history)) enough)
+      (λ p i w. demand3 (start .args .set) t p i (start .pre .0 .accepted) (start .args .a) (start .pre .1) w (whole t) (start .args .st) (now (start .args .words)) (now (start .args .history)) (enough t (start .args .a) (start .pre .1)))
 
 returns : tie.Need-returns
 returns c = let k = c .before .before .before in (searched k, told k)
