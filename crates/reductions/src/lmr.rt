@@ -1,7 +1,6 @@
-// The table itself, rows 0..31 of 64 columns each, one row after the other.
+// The table itself: a row of 64 columns for each depth. A row is a constant of its own, since a constant is copied where it is read.
 
-pub const LMR: [u8; 2048] = [
-    // depth 0
+pub const DEPTH_0: [u8; 64] = [
     0,
     0,
     0,
@@ -66,7 +65,9 @@ pub const LMR: [u8; 2048] = [
     0,
     0,
     0,
-    // depth 1
+];
+
+pub const DEPTH_1: [u8; 64] = [
     0,
     1,
     1,
@@ -131,7 +132,9 @@ pub const LMR: [u8; 2048] = [
     1,
     1,
     1,
-    // depth 2
+];
+
+pub const DEPTH_2: [u8; 64] = [
     0,
     1,
     1,
@@ -196,7 +199,9 @@ pub const LMR: [u8; 2048] = [
     2,
     2,
     2,
-    // depth 3
+];
+
+pub const DEPTH_3: [u8; 64] = [
     0,
     1,
     1,
@@ -261,7 +266,9 @@ pub const LMR: [u8; 2048] = [
     3,
     3,
     3,
-    // depth 4
+];
+
+pub const DEPTH_4: [u8; 64] = [
     0,
     1,
     1,
@@ -326,7 +333,9 @@ pub const LMR: [u8; 2048] = [
     3,
     3,
     3,
-    // depth 5
+];
+
+pub const DEPTH_5: [u8; 64] = [
     0,
     1,
     1,
@@ -391,7 +400,9 @@ pub const LMR: [u8; 2048] = [
     3,
     3,
     3,
-    // depth 6
+];
+
+pub const DEPTH_6: [u8; 64] = [
     0,
     1,
     1,
@@ -456,7 +467,9 @@ pub const LMR: [u8; 2048] = [
     4,
     4,
     4,
-    // depth 7
+];
+
+pub const DEPTH_7: [u8; 64] = [
     0,
     1,
     1,
@@ -521,7 +534,9 @@ pub const LMR: [u8; 2048] = [
     4,
     4,
     4,
-    // depth 8
+];
+
+pub const DEPTH_8: [u8; 64] = [
     0,
     1,
     1,
@@ -586,7 +601,9 @@ pub const LMR: [u8; 2048] = [
     4,
     4,
     4,
-    // depth 9
+];
+
+pub const DEPTH_9: [u8; 64] = [
     0,
     1,
     1,
@@ -651,7 +668,9 @@ pub const LMR: [u8; 2048] = [
     4,
     4,
     4,
-    // depth 10
+];
+
+pub const DEPTH_10: [u8; 64] = [
     0,
     1,
     1,
@@ -716,7 +735,9 @@ pub const LMR: [u8; 2048] = [
     5,
     5,
     5,
-    // depth 11
+];
+
+pub const DEPTH_11: [u8; 64] = [
     0,
     1,
     1,
@@ -781,7 +802,9 @@ pub const LMR: [u8; 2048] = [
     5,
     5,
     5,
-    // depth 12
+];
+
+pub const DEPTH_12: [u8; 64] = [
     0,
     1,
     1,
@@ -846,7 +869,9 @@ pub const LMR: [u8; 2048] = [
     5,
     5,
     5,
-    // depth 13
+];
+
+pub const DEPTH_13: [u8; 64] = [
     0,
     1,
     1,
@@ -911,7 +936,9 @@ pub const LMR: [u8; 2048] = [
     5,
     5,
     5,
-    // depth 14
+];
+
+pub const DEPTH_14: [u8; 64] = [
     0,
     1,
     1,
@@ -976,7 +1003,9 @@ pub const LMR: [u8; 2048] = [
     5,
     5,
     5,
-    // depth 15
+];
+
+pub const DEPTH_15: [u8; 64] = [
     0,
     1,
     2,
@@ -1041,7 +1070,9 @@ pub const LMR: [u8; 2048] = [
     5,
     5,
     5,
-    // depth 16
+];
+
+pub const DEPTH_16: [u8; 64] = [
     0,
     1,
     2,
@@ -1106,7 +1137,9 @@ pub const LMR: [u8; 2048] = [
     5,
     5,
     5,
-    // depth 17
+];
+
+pub const DEPTH_17: [u8; 64] = [
     0,
     1,
     2,
@@ -1171,7 +1204,9 @@ pub const LMR: [u8; 2048] = [
     5,
     5,
     5,
-    // depth 18
+];
+
+pub const DEPTH_18: [u8; 64] = [
     0,
     1,
     2,
@@ -1236,7 +1271,9 @@ pub const LMR: [u8; 2048] = [
     6,
     6,
     6,
-    // depth 19
+];
+
+pub const DEPTH_19: [u8; 64] = [
     0,
     1,
     2,
@@ -1301,7 +1338,9 @@ pub const LMR: [u8; 2048] = [
     6,
     6,
     6,
-    // depth 20
+];
+
+pub const DEPTH_20: [u8; 64] = [
     0,
     1,
     2,
@@ -1366,7 +1405,9 @@ pub const LMR: [u8; 2048] = [
     6,
     6,
     6,
-    // depth 21
+];
+
+pub const DEPTH_21: [u8; 64] = [
     0,
     1,
     2,
@@ -1431,7 +1472,9 @@ pub const LMR: [u8; 2048] = [
     6,
     6,
     6,
-    // depth 22
+];
+
+pub const DEPTH_22: [u8; 64] = [
     0,
     1,
     2,
@@ -1496,7 +1539,9 @@ pub const LMR: [u8; 2048] = [
     6,
     6,
     6,
-    // depth 23
+];
+
+pub const DEPTH_23: [u8; 64] = [
     0,
     1,
     2,
@@ -1561,7 +1606,9 @@ pub const LMR: [u8; 2048] = [
     6,
     6,
     6,
-    // depth 24
+];
+
+pub const DEPTH_24: [u8; 64] = [
     0,
     1,
     2,
@@ -1626,7 +1673,9 @@ pub const LMR: [u8; 2048] = [
     6,
     6,
     6,
-    // depth 25
+];
+
+pub const DEPTH_25: [u8; 64] = [
     0,
     1,
     2,
@@ -1691,7 +1740,9 @@ pub const LMR: [u8; 2048] = [
     6,
     6,
     6,
-    // depth 26
+];
+
+pub const DEPTH_26: [u8; 64] = [
     0,
     1,
     2,
@@ -1756,7 +1807,9 @@ pub const LMR: [u8; 2048] = [
     6,
     6,
     6,
-    // depth 27
+];
+
+pub const DEPTH_27: [u8; 64] = [
     0,
     1,
     2,
@@ -1821,7 +1874,9 @@ pub const LMR: [u8; 2048] = [
     6,
     6,
     6,
-    // depth 28
+];
+
+pub const DEPTH_28: [u8; 64] = [
     0,
     1,
     2,
@@ -1886,7 +1941,9 @@ pub const LMR: [u8; 2048] = [
     6,
     6,
     6,
-    // depth 29
+];
+
+pub const DEPTH_29: [u8; 64] = [
     0,
     1,
     2,
@@ -1951,7 +2008,9 @@ pub const LMR: [u8; 2048] = [
     6,
     6,
     6,
-    // depth 30
+];
+
+pub const DEPTH_30: [u8; 64] = [
     0,
     1,
     2,
@@ -2016,7 +2075,9 @@ pub const LMR: [u8; 2048] = [
     6,
     6,
     6,
-    // depth 31
+];
+
+pub const DEPTH_31: [u8; 64] = [
     0,
     1,
     2,
