@@ -36,15 +36,15 @@ pub struct Here {
 
 // What the walk carries: alpha, the best move, the state.
 pub struct Loc {
+    pub state: State,
     pub alpha: i16,
     pub mv: u16,
-    pub state: State,
 }
 
 // What a turn of the walk leaves; `done` where it cut.
 pub struct Turn {
-    pub done: bool,
     pub loc: Loc,
+    pub done: bool,
 }
 
 // What the steps before the walk leave: an answer, or the walk to be made.

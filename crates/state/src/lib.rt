@@ -30,15 +30,15 @@ pub struct Settings {
 
 // What a search carries by value: the count of nodes, the stop mark, the table's age and counters.
 pub struct State {
+    pub stats: Stats,
     pub nodes: u64,
     pub stop: bool,
-    pub stats: Stats,
 }
 
 // What a visit answers.
 pub struct Out {
-    pub score: i16,
     pub state: State,
+    pub score: i16,
 }
 
 // What a lookup found, and the state after it.

@@ -15,12 +15,12 @@ pub mod rates; // rates.rt: the rates of hits, misses and collisions
 
 // The age and the five counters, which wrap at 2^64.
 pub struct Stats {
-    pub age: u8,
     pub lookups: u64,
     pub inserts: u64,
     pub hits: u64,
     pub misses: u64,
     pub collisions: u64,
+    pub age: u8,
 }
 
 // What stands at a hash.

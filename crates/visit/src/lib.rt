@@ -41,16 +41,16 @@ pub struct Here {
 
 // What the walk carries: alpha, the score and the move to be stored, the state.
 pub struct Loc {
+    pub state: State,
     pub alpha: i16,
     pub best: i16,
     pub mv: u16,
-    pub state: State,
 }
 
 // What a turn of the walk leaves; `done` where it cut.
 pub struct Turn {
-    pub done: bool,
     pub loc: Loc,
+    pub done: bool,
 }
 
 // What the steps before the moves leave: an answer, or the moves to be made.

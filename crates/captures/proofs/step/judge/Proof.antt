@@ -69,7 +69,7 @@ hash-requires : tie.Need-hash-requires
 hash-requires c κs = let s = start (c .before .before .before .before .before .before .before .before) in record-in (now (s .args .tree)) (s .pre .0) (s .args .here .node) (s .pre .1 .0)
 
 depth-of-requires : tie.Need-depth-of-requires
-depth-of-requires c κs = search needs
+depth-of-requires c κs = start (c .before .before .before .before .before .before .before .before .before .before) .pre .1 .1 .1 .1
 
 keep-requires : tie.Need-keep-requires
 keep-requires c κs = start (c .before .before .before .before .before .before .before .before .before .before .before) .pre .1 .1 .1 .0
