@@ -60,7 +60,9 @@ pub fn search_node(
     let x = visit::extend(tree, a);
     let depth = x.depth;
     if depth == 0 {
-        return captures::captures(tree, words, set, s, capture_of(x));
+        // Bound first: an answer that is built apart from the others' place is copied more cheaply.
+        let q = captures::captures(tree, words, set, s, capture_of(x));
+        return q;
     }
     let e = enter::enter(tree, words, set, s, x);
     match e {
