@@ -51,10 +51,24 @@ mod settings;
 mod switched_table;
 mod tree;
 
+// The benchmark, which has the request generator's trees.
+#[cfg(bench)]
+mod bench;
+#[cfg(bench)]
+mod rng;
+#[cfg(bench)]
+mod trees;
+
 use std::io::{self, BufWriter, Write};
 
 use request::{read_request, Read};
 
+#[cfg(bench)]
+fn main() {
+    bench::run();
+}
+
+#[cfg(not(bench))]
 fn main() {
     let mut input = io::BufReader::with_capacity(1 << 20, io::stdin().lock());
     let mut out = BufWriter::with_capacity(1 << 20, io::stdout().lock());
