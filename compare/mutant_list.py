@@ -277,6 +277,10 @@ OTHER = [
     ("scripts.rs", "if count > 1 << 40 || lookups > 1 << 40 {", "if count >= 1 << 40 || lookups > 1 << 40 {"),
     ("scripts.rs", "(count as f64) * 100.0 / (lookups as f64)", "(count as f64) / (lookups as f64) * 100.0"),
     ("scripts.rs", "7 => t.misses,", "7 => t.lookups.wrapping_sub(t.hits).wrapping_sub(t.collisions),"),
+    # The stop mark is what the polls said, not whether the count reached the limit. (A root search polls after each depth but the
+    # first, in which no move is skipped, so there the two are one.)
+    ("searches.rs", 'node 0 score {score} nodes {} stopped {}{}",\n                game.nodes_count,\n                game.clock.is_stopped() as u8,',
+     'node 0 score {score} nodes {} stopped {}{}",\n                game.nodes_count,\n                (game.nodes_count >= r.limit) as u8,'),
     ("request.rs", "history > 8_193", "history > 8_192"),
     ("request.rs", "tree > 66_048", "tree > 65_536"),
 ]

@@ -16,6 +16,20 @@ use std::io::{self, BufWriter, Write};
 use request::{Entries, Request, Step, Words};
 use rng::Rng;
 
+/// How many requests in a row ask for one search with limits 1, 2, 3 and so on.
+const SWEEP: u64 = 64;
+
+/// A request of the run. Two of a hundred sweeps are a search under every limit; the requests of the others are each their own.
+fn request(seed: u64, number: u64) -> Request {
+    let sweep = Rng::new(!seed, number / SWEEP);
+    if sweep.chance(2) {
+        let mut r = searches::swept(&sweep);
+        r.limit = 1 + number % SWEEP;
+        return r;
+    }
+    one(&Rng::new(seed, number))
+}
+
 fn one(rng: &Rng) -> Request {
     if rng.below(200) == 0 {
         return searches::reductions(rng);
@@ -115,7 +129,7 @@ fn main() {
     } else {
         let (seed, from, count) = (number(first), number(args.next()), number(args.next()));
         for i in from..from + count {
-            one(&Rng::new(seed, i)).write(&mut out);
+            request(seed, i).write(&mut out);
         }
     }
     out.flush().unwrap();

@@ -317,6 +317,37 @@ pub fn reductions(rng: &Rng) -> Request {
     r
 }
 
+/// A search of which every limit from 1 on is asked for in turn: quiet moves below a window that they can't reach are counted
+/// and skipped, so that the count reaches a limit with no poll after it.
+pub fn swept(rng: &Rng) -> Request {
+    let mut r = if rng.chance(50) { root_search(rng) } else { node_search(rng) };
+    r.switches |= 0b001000;
+    let nodes = quiet_tree(rng);
+    r.tree = encode(&nodes);
+    if r.kind == 1 {
+        r.depth = rng.range(1, 2) as i8;
+        r.end = r.depth + rng.range(1, 3) as i8;
+    } else {
+        r.node = 0;
+        r.depth = rng.range(1, 5) as i8;
+        r.alpha = (nodes[0].eval as i64 + rng.range(-60, 300)) as i16;
+        r.beta = r.alpha + rng.pick(&[1, 1, 1, 40]);
+    }
+    r
+}
+
+/// A small tree of mostly quiet moves, with evaluations that fit every setting.
+fn quiet_tree(rng: &Rng) -> Vec<Node> {
+    let mut nodes = random_tree(rng, 500);
+    while nodes.len() > 60 || nodes.len() < 4 {
+        nodes = random_tree(rng, 500);
+    }
+    for node in &mut nodes[1..] {
+        node.flags = if rng.chance(85) { 2 } else { node.flags & !(CHECK | 8) };
+    }
+    nodes
+}
+
 pub fn node_search(rng: &Rng) -> Request {
     let mut r = Request { kind: 2, ..Request::default() };
     let nodes = accepted_tree(rng, &mut r);
