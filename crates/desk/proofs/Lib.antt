@@ -1,3 +1,4 @@
 pub mod Handed
+pub mod OneResult
 pub mod Searching
 pub mod Starting

@@ -1,2 +1,3 @@
 pub mod TableAnswers
 pub mod HistoryAnswers
+pub mod OneResult
