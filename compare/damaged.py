@@ -1,14 +1,15 @@
 #!/usr/bin/env python3
-"""Good trees and damaged ones, each with the refusal that it must get under INF 30,000 and MAX_PLY 128.
+"""Good trees and damaged ones, each with the line that the program must answer it with.
 
 usage: compare/damaged.py             writes crates/damaged/stdin's bytes: each tree after its length, 4 bytes
        compare/damaged.py --expect    writes crates/damaged/stdout
-       compare/damaged.py --list      writes number, refusal and name of each
+       compare/damaged.py --list      writes number, line and name of each
        compare/damaged.py --probe [PROGRAM]
-                                      has a probe check each tree (target/compare/oracle if none is named);
-                                      status 1 on a difference
+                                      has a probe check and search each tree (target/compare/oracle if none is
+                                      named); status 1 on a difference
 
-The refusals in `cases` are written by hand, from the words of 01; nothing here computes one.
+The refusals in `cases` are written by hand, from the words of 01; nothing here computes one. The lines of good trees are
+the oracle's, but for one node, where nothing is found, and the two quiet children, where 01 has the line.
 """
 import struct
 import subprocess
@@ -17,12 +18,22 @@ from pathlib import Path
 
 sys.dont_write_bytecode = True
 
-from probe_format import block_check, node, request, tree
+from probe_format import CHECK, block_check, mate_tree, node, quiet_tree, request, tree
 
 ROOT = Path(__file__).resolve().parent.parent
 
 
 # Good trees
+
+def line(score, move, depth, nodes, stopped=0):
+    return f"score {score} move {move} depth {depth} nodes {nodes} stopped {stopped}"
+
+
+def checks(moves):
+    """A chain of checks that ends in mate, all of it in one slot of the table, so that hints are lost."""
+    above = [node(k + 1, 1, CHECK, move=k, hash=4096 * k) for k in range(moves)]
+    return tree(above + [node(flags=CHECK, move=moves, hash=4096 * moves)])
+
 
 def fields(k, first, count):
     """A record whose other fields differ from node to node and keep row 4."""
@@ -161,16 +172,21 @@ def unused(t, block, place, value=1):
 
 
 def cases():
-    """(refusal, name, tree)"""
+    """(refusal or line, name, tree)"""
     one, two, wide = heap(1, 1), heap(3, 2), heap(64, 63)
-    yield 0, "one node", one
-    yield 0, "two children", two
-    yield 0, "63 children", wide
-    yield 0, "a full block", heap(31, 3)
-    yield 0, "one node in the second block", heap(32, 3)
-    yield 0, "three blocks", base()
-    yield 0, "128 blocks, all full", heap(3968, 7)
-    yield 0, "128 blocks, one node in the last", heap(3938, 63)
+    two_line, base_line = line(29999, 1, 6, 12), line(0, 3, 30, 570)
+    yield line(0, 0, 0, 0), "one node", one
+    yield line(0, 32, 30, 60), "01's two quiet children", quiet_tree()
+    yield line(29999, 16, 6, 6), "01's mate", mate_tree()
+    yield two_line, "two children", two
+    yield line(29999, 1, 6, 378), "63 children", wide
+    yield line(0, 1, 30, 402), "a full block", heap(31, 3)
+    yield line(0, 1, 30, 402), "one node in the second block", heap(32, 3)
+    yield base_line, "three blocks", base()
+    yield line(0, 1, 30, 1726), "128 blocks, all full", heap(3968, 7)
+    yield line(0, 9, 30, 3005), "128 blocks, one node in the last", heap(3938, 63)
+    yield line(-29990, 1, 6, 3012), "ten checks, the last mate", checks(10)
+    yield line(-29900, 1, 4, 1000003, stopped=1), "a hundred checks, over the limit", checks(100)
 
     # Row 1: length
     yield 1, "length 0", b""
@@ -180,6 +196,7 @@ def cases():
     yield 1, "a block and a half", longer(one, 256)
     yield 1, "three blocks less a byte", cut(base(), 1535)
     yield 1, "129 blocks, otherwise right", heap(3999, 7)
+    yield 1, "128 blocks and a byte, 65,537 bytes", longer(heap(3968, 7), 1)
 
     # Row 2: mark
     yield 2, "mark, byte 0", mark(base(), 0)
@@ -215,7 +232,7 @@ def cases():
     yield 2, "check, bit 13", check_bit(one, 0, 13)
     yield 2, "check, words added without the rotation", check_not_rotated(base(), 1)
     yield 2, "another hash and the old check", stale_check(base(), 40)
-    yield 0, "another hash and a new check", hash_of(base(), 40, 12345)
+    yield base_line, "another hash and a new check", hash_of(base(), 40, 12345)
 
     # Row 3: child count
     yield 3, "64 children, otherwise right", heap(65, 64)
@@ -243,25 +260,19 @@ def cases():
     yield 3, "one child less, and all else as it was", count(base(), 26, 0)
 
     # Row 4: flags
-    yield 0, "flags 31", flags(base(), 0, 31)
-    yield 4, "flag bit 5", flags(base(), 0, 32)
-    yield 4, "flag bit 6", flags(base(), 40, 64)
-    yield 4, "flag bit 7", flags(base(), 79, 128)
-    yield 4, "flags 63", flags(one, 0, 63)
+    yield base_line, "flags 31", flags(base(), 0, 31)
+    for k, value in (0, 32), (40, 64), (79, 128), (79, 63):
+        yield 4, f"flags {value}", flags(base(), k, value)
     # Row 4: evaluation, strictly inside plus and minus 29,872
-    yield 0, "evaluation 29,871", evaluation(base(), 0, 29871)
-    yield 0, "evaluation -29,871", evaluation(base(), 79, -29871)
-    yield 4, "evaluation 29,872", evaluation(base(), 0, 29872)
-    yield 4, "evaluation -29,872", evaluation(base(), 79, -29872)
-    yield 4, "evaluation 32,767", evaluation(base(), 31, 32767)
-    yield 4, "evaluation -32,768", evaluation(base(), 30, -32768)
+    for k, value in (0, 29871), (79, -29871):
+        yield base_line, f"evaluation {value:,}", evaluation(base(), k, value)
+    for k, value in (0, 29872), (79, -29872), (31, 32767), (30, -32768):
+        yield 4, f"evaluation {value:,}", evaluation(base(), k, value)
     # Row 4: moves
-    yield 4, "the root's move 1", move(base(), 0, 1)
-    yield 4, "the root's move 256", move(one, 0, 256)
-    yield 4, "the first child's move 0", move(base(), 1, 0)
-    yield 4, "the last node's move 0", move(base(), 79, 0)
-    yield 0, "the last node's move 256", move(base(), 79, 256)
-    yield 0, "the last node's move 65,535", move(base(), 79, 65535)
+    for k, value in (0, 1), (0, 256), (1, 0), (79, 0):
+        yield 4, f"move {value} of node {k}", move(base(), k, value)
+    for value in 256, 65535:
+        yield base_line, f"the last node's move {value:,}", move(base(), 79, value)
     # Row 4: siblings
     yield 4, "the root's two children alike", move(two, 2, 1)
     yield 4, "adjacent siblings alike", move(base(), 41, 40)
@@ -269,10 +280,10 @@ def cases():
     yield 4, "the first and the last of 63 alike", move(wide, 63, 1)
     yield 4, "the last two of 63 alike", move(wide, 63, 62)
     yield 4, "two in the middle of 63 alike", move(wide, 20, 45)
-    yield 0, "siblings that differ in the high byte alone", move(two, 2, 257)
-    yield 0, "siblings that differ in the low byte alone", move(move(two, 1, 256), 2, 257)
-    yield 0, "cousins alike", move(base(), 6, 7)
-    yield 0, "a child's move is its parent's", move(base(), 4, 1)
+    yield two_line, "siblings that differ in the high byte alone", move(two, 2, 257)
+    yield line(29999, 256, 6, 12), "siblings that differ in the low byte alone", move(move(two, 1, 256), 2, 257)
+    yield base_line, "cousins alike", move(base(), 6, 7)
+    yield base_line, "a child's move is its parent's", move(base(), 4, 1)
     # Row 4: unused records
     yield 4, "the first unused byte", unused(one, 0, 16)
     yield 4, "the last unused byte", unused(one, 0, 495)
@@ -281,10 +292,10 @@ def cases():
     yield 4, "an unused byte in the middle", unused(base(), 2, 400)
 
     # Row 5: depth
-    yield 0, "100 moves deep", chain(100)
+    yield line(0, 1, 30, 230), "100 moves deep", chain(100)
     yield 5, "101 moves deep", chain(101)
     yield 5, "102 moves deep", chain(102)
-    yield 0, "100 moves deep by the second of two", comb(100)
+    yield two_line, "100 moves deep by the second of two", comb(100)
     yield 5, "101 moves deep by the second of two", comb(101)
     yield 5, "3,967 moves deep", chain(3967)
 
@@ -328,33 +339,51 @@ def cases():
     yield 3, "3, 4 and 5", first(deep, 100, 0)
     yield 2, "2, 3, 4 and 5", mark(first(deep, 100, 0), 3)
     yield 1, "1 to 5", cut(mark(first(deep, 100, 0), 3), 2047)
-    yield 0, "a good tree at the end", base()
+    yield base_line, "a good tree at the end", base()
 
 
 def with_length(t):
     return struct.pack("<I", len(t)) + t
 
 
+def answer(expected):
+    return expected if isinstance(expected, str) else f"refused {expected}"
+
+
+def asked(t):
+    """The tree's check, and the program's search of it."""
+    return request(3, tree=t) + request(1, depth=1, end=31, tree=t)
+
+
+def told(check, root):
+    """The program's line, from a probe's two answers; the check's refusal must be the search's."""
+    words = root.split()
+    if check.split()[1] != words[1]:
+        return f"{check}, {root}"
+    return " ".join(words[2:12]) if words[1] == "0" else f"refused {words[1]}"
+
+
 def probe(program):
     trees = list(cases())
-    data = b"".join(request(3, tree=t) for _, _, t in trees)
+    data = b"".join(asked(t) for _, _, t in trees)
     lines = subprocess.run([program], input=data, stdout=subprocess.PIPE, check=True).stdout.decode().splitlines()
-    wrong = [(i, expected, name, line) for i, ((expected, name, _), line) in enumerate(zip(trees, lines))
-             if line != f"tree {expected}"]
-    for i, expected, name, line in wrong:
-        print(f"{i} {name}: expected {expected}, got '{line}'")
-    print(f"{len(trees) - len(wrong)} of {len(trees)} trees agree")
-    return 1 if wrong or len(lines) != len(trees) else 0
+    answers = [told(*pair) for pair in zip(lines[::2], lines[1::2])]
+    wrong = [(i, answer(expected), name, got) for i, ((expected, name, _), got) in enumerate(zip(trees, answers))
+             if got != answer(expected)]
+    for i, expected, name, got in wrong:
+        print(f"{i} {name}: expected '{expected}', got '{got}'")
+    print(f"{len(answers) - len(wrong)} of {len(trees)} trees agree")
+    return 1 if wrong or len(answers) != len(trees) else 0
 
 
 def main(words):
     if words == ["--expect"]:
         for i, (expected, _, _) in enumerate(cases()):
-            print(i, expected)
+            print(i, answer(expected))
         print("bad input")
     elif words == ["--list"]:
         for i, (expected, name, _) in enumerate(cases()):
-            print(i, expected, name)
+            print(f"{i} {answer(expected)}: {name}")
     elif words[:1] == ["--probe"]:
         return probe(words[1] if len(words) > 1 else ROOT / "target/compare/oracle")
     elif not words:

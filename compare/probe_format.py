@@ -1,8 +1,9 @@
-"""Requests of the probe format, made and taken apart. Used by selftest and first_difference."""
+"""Trees, and requests of the probe format, made and taken apart. Used by the scripts beside it and by examples/make.py."""
 import struct
 
 HEADER = "<BBhHhBbbBhhQQQ5QIIIBBH"
 ALL_ON = 0b111111
+CHECK, QUIET, DRAW = 1, 2, 8
 
 
 def block_check(words):
@@ -25,6 +26,17 @@ def tree(nodes):
         body += struct.pack("<HHI", number, len(used), 0)
         blocks += body + struct.pack("<I", block_check(struct.unpack("<127I", body)))
     return blocks
+
+
+def mate_tree():
+    """01: "Root whose one child is in check and childless"."""
+    return tree([node(1, 1), node(flags=CHECK, move=16, hash=1)])
+
+
+def quiet_tree():
+    """01: "Two quiet childless children, not in check, moves 16 and 32, evaluations 30 and -40"."""
+    return tree([node(1, 2, hash=1), node(flags=QUIET, evaluation=30, move=16, hash=2),
+                 node(flags=QUIET, evaluation=-40, move=32, hash=3)])
 
 
 def step(operation, d=0, h=0, s=0, m=0, a=0, b=0):

@@ -1,5 +1,5 @@
 // Reads trees from standard input, each as its length (4 bytes, little-endian) and its bytes, until the input ends,
-// and prints a line for each: its number from 0, and its refusal under INF 30,000 and MAX_PLY 128.
+// and prints a line for each: its number from 0, and the line that the program answers it with.
 use libc::STDIN_FILENO;
 use libc::STDOUT_FILENO;
 
@@ -10,11 +10,10 @@ fn bad_input() -> bool {
 }
 
 // False where the line can't be written.
-fn line(number: u64, refusal: u8) -> bool {
+fn numbered(number: u64, tree: &[u8]) -> bool {
     io::print_decimal(STDOUT_FILENO, number);
     io::write_all(STDOUT_FILENO, b" ");
-    io::print_decimal(STDOUT_FILENO, refusal as u64);
-    io::write_all(STDOUT_FILENO, b"\n")
+    line::print(tree)
 }
 
 // Fills the part that a tree takes, and answers; false where the run ends.
@@ -22,7 +21,7 @@ fn answer(tree: &mut [u8], number: u64) -> bool {
     if io::read_full(STDIN_FILENO, tree) != tree.len() {
         return bad_input();
     }
-    line(number, tree::check(tree, 30000, 128))
+    numbered(number, tree)
 }
 
 fn body(buf: &mut [u8], length: usize, number: u64) -> bool {
