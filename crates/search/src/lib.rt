@@ -11,6 +11,7 @@ use state::Out;
 use state::Settings;
 use state::State;
 use state::order;
+use table::Stats;
 use tree::node;
 use visit::Args;
 use visit::Entered;
@@ -22,6 +23,40 @@ use visit::enter;
 use visit::finish;
 use visit::prune;
 use visit::window;
+
+// The same state, field by field: what is copied whole is kept in memory, what is rebuilt in registers.
+fn rebuilt(s: State) -> State
+    ensures { λ r. ⌜ r ≡ s ⌝ }
+{
+    let c = s.stats;
+    let stats = Stats {
+        lookups: c.lookups,
+        inserts: c.inserts,
+        hits: c.hits,
+        misses: c.misses,
+        collisions: c.collisions,
+        age: c.age,
+    };
+    State {
+        stats: stats,
+        nodes: s.nodes,
+        stop: s.stop,
+    }
+}
+
+// What the walk goes on with after a turn, rebuilt as well.
+fn goes_on(t: Turn) -> Loc
+    ensures { λ r. ⌜ r ≡ t .loc ⌝ }
+{
+    let loc = t.loc;
+    let s = loc.state;
+    Loc {
+        state: rebuilt(s),
+        alpha: loc.alpha,
+        best: loc.best,
+        mv: loc.mv,
+    }
+}
 
 // At depth 0: captures at depth -1, ply + 1.
 fn capture_of(a: Args) -> Capture
@@ -61,7 +96,7 @@ pub fn search_node(
     let depth = x.depth;
     if depth == 0 {
         // Bound first: an answer that is built apart from the others' place is copied more cheaply.
-        let q = captures::captures(tree, words, set, s, capture_of(x));
+        let q = captures::captures(tree, words, set, rebuilt(s), capture_of(x));
         return q;
     }
     let e = enter::enter(tree, words, set, s, x);
@@ -122,7 +157,7 @@ fn walk(
         let c = order::child(tree, k, place, i);
         let t = turn(tree, words, history, set, here, l, c, i);
         let done = t.done;
-        l = t.loc;
+        l = goes_on(t);
         if done {
             return cutoff::cutoff(tree, words, history, set, here, place, l, c, i);
         }

@@ -54,6 +54,8 @@ use Rattle.search.proofs.widened.Kinds as widened-kinds
 use Rattle.search.proofs.+deepen+reduced+search_node+turn+walk+widened.Lts-widened as widened-lts
 use Rattle.captures.proofs.captures.Reads as captures-reads
 use Rattle.search.proofs.capture_of.Reads as capture-of-reads
+use Rattle.search.proofs.goes_on.Reads as goes-on-reads
+use Rattle.search.proofs.rebuilt.Reads as rebuilt-reads
 use Rattle.state.proofs.State.answer.Reads as answer-reads
 use Rattle.state.proofs.State.poll.Reads as poll-reads
 use Rattle.state.proofs.order.child.Reads as child-reads
@@ -143,13 +145,13 @@ abbrev reduced-calls : ℕ → reduced-lts.Claims
 reduced-calls t = (null-reads.Asked, null-reads.Learnt, search-node-below t, search-node.Post, again-reads.Asked, again-reads.Learnt, widened-below t, widened.Post)
 
 abbrev search-node-calls : ℕ → search-node-lts.Claims
-search-node-calls t = (poll-reads.Asked, poll-reads.Learnt, answer-reads.Asked, answer-reads.Learnt, extend-reads.Asked, extend-reads.Learnt, capture-of-reads.Asked, capture-of-reads.Learnt, captures-reads.Asked, captures-reads.Learnt, enter-reads.Asked, enter-reads.Learnt, deepen-below t, deepen.Post, walk-below t, walk.Post, finish-reads.Asked, finish-reads.Learnt)
+search-node-calls t = (poll-reads.Asked, poll-reads.Learnt, answer-reads.Asked, answer-reads.Learnt, extend-reads.Asked, extend-reads.Learnt, rebuilt-reads.Asked, rebuilt-reads.Learnt, capture-of-reads.Asked, capture-of-reads.Learnt, captures-reads.Asked, captures-reads.Learnt, enter-reads.Asked, enter-reads.Learnt, deepen-below t, deepen.Post, walk-below t, walk.Post, finish-reads.Asked, finish-reads.Learnt)
 
 abbrev turn-calls : ℕ → turn-lts.Claims
 turn-calls t = (counted-reads.Asked, counted-reads.Learnt, move-to-reads.Asked, move-to-reads.Learnt, full-reads.Asked, full-reads.Learnt, search-node-below t, search-node.Post, first-reads.Asked, first-reads.Learnt, judge-reads.Asked, judge-reads.Learnt, futile-reads.Asked, futile-reads.Learnt, unfinished-reads.Asked, unfinished-reads.Learnt, reduction-reads.Asked, reduction-reads.Learnt, reduced-below t, reduced.Post)
 
 abbrev walk-calls : ℕ → walk-lts.Claims
-walk-calls t = (child-count-reads.Asked, child-count-reads.Learnt, hint-place-reads.Asked, hint-place-reads.Learnt, child-reads.Asked, child-reads.Learnt, turn-below t, turn.Post, cutoff-reads.Asked, cutoff-reads.Learnt, unfinished-reads.Asked, unfinished-reads.Learnt)
+walk-calls t = (child-count-reads.Asked, child-count-reads.Learnt, hint-place-reads.Asked, hint-place-reads.Learnt, child-reads.Asked, child-reads.Learnt, turn-below t, turn.Post, goes-on-reads.Asked, goes-on-reads.Learnt, cutoff-reads.Asked, cutoff-reads.Learnt, unfinished-reads.Asked, unfinished-reads.Learnt)
 
 abbrev widened-calls : ℕ → widened-lts.Claims
 widened-calls t = (inside-reads.Asked, inside-reads.Learnt, full-reads.Asked, full-reads.Learnt, search-node-below t, search-node.Post)
@@ -280,24 +282,27 @@ search-node-returns t c = λ k h. ap (λ (x : Out). with x (c .before .before .b
 search-node-extend-requires : (t : ℕ) → search-node-lts.Need-extend-requires (search-node-calls t) (search-node-at t) search-node.Post
 search-node-extend-requires t c κs = (blocked (c .before .before .before .before .args .set) (c .before .before .before .before .args .tree .now) (c .before .before .before .before .pre .1 .0 .accepted), (c .before .before .before .before .pre .1 .1 .in-tree, c .before .before .before .before .pre .1 .1 .depth-most))
 
+search-node-rebuilt-requires : (t : ℕ) → search-node-lts.Need-rebuilt-requires (search-node-calls t) (search-node-at t) search-node.Post
+search-node-rebuilt-requires t c κs = tt
+
 search-node-capture-of-requires : (t : ℕ) → search-node-lts.Need-capture-of-requires (search-node-calls t) (search-node-at t) search-node.Post
 search-node-capture-of-requires t c κs =
-    let r = to-captures (c .before .before .before .before .before .before .before .args .tree .now) (c .before .before .before .before .before .before .before .args .a) (c .before .before .extend .result) (c .before .before .extend .ensures) (c .before .before .before .before .before .before .before .pre .1 .1) in
-    omega (arith, r .ply-least, level-low (c .before .before .before .before .before .before .before .args .set) (c .before .before .before .before .before .before .before .args .tree .now) (c .before .before .before .before .before .before .before .pre .1 .0 .accepted) (c .before .before .extend .result .node))
+    let r = to-captures (c .before .before .before .before .before .before .before .before .args .tree .now) (c .before .before .before .before .before .before .before .before .args .a) (c .before .before .before .extend .result) (c .before .before .before .extend .ensures) (c .before .before .before .before .before .before .before .before .pre .1 .1) in
+    omega (arith, r .ply-least, level-low (c .before .before .before .before .before .before .before .before .args .set) (c .before .before .before .before .before .before .before .before .args .tree .now) (c .before .before .before .before .before .before .before .before .pre .1 .0 .accepted) (c .before .before .before .extend .result .node))
 
 search-node-captures-requires : (t : ℕ) → search-node-lts.Need-captures-requires (search-node-calls t) (search-node-at t) search-node.Post
 search-node-captures-requires t c κs =
-    (c .before .before .before .before .before .before .before .before .pre .1 .0 .accepted, (subst (λ (x : Capture). captures.Reach (c .before .before .before .before .before .before .before .before .args .tree .now) (x .node) (x .below) (x .ply)) (sym (c .capture-of .ensures)) (to-captures (c .before .before .before .before .before .before .before .before .args .tree .now) (c .before .before .before .before .before .before .before .before .args .a) (c .before .before .before .extend .result) (c .before .before .before .extend .ensures) (c .before .before .before .before .before .before .before .before .pre .1 .1)), c .before .before .before .before .before .before .before .before .pre .1 .0 .words-least))
+    (c .before .before .before .before .before .before .before .before .before .pre .1 .0 .accepted, (subst (λ (x : Capture). captures.Reach (c .before .before .before .before .before .before .before .before .before .args .tree .now) (x .node) (x .below) (x .ply)) (sym (c .capture-of .ensures)) (to-captures (c .before .before .before .before .before .before .before .before .before .args .tree .now) (c .before .before .before .before .before .before .before .before .before .args .a) (c .before .before .before .before .extend .result) (c .before .before .before .before .extend .ensures) (c .before .before .before .before .before .before .before .before .before .pre .1 .1)), c .before .before .before .before .before .before .before .before .before .pre .1 .0 .words-least))
 
 search-node-same-length : (t : ℕ) → search-node-lts.Need-same-length (search-node-calls t) (search-node-at t) search-node.Post
 search-node-same-length t c = c .before .before .captures .kept .1 .0
 
 search-node-returns-2 : (t : ℕ) → search-node-lts.Need-returns-2 (search-node-calls t) (search-node-at t) search-node.Post
 search-node-returns-2 t c =
-    let same = subst (λ (y : Args). Same y (c .before .before .before .before .before .before .before .before .before .before .before .args .a)) (sym (c .before .before .before .before .before .before .extend .ensures)) (extend-same (c .before .before .before .before .before .before .before .before .before .before .before .args .tree .now) (c .before .before .before .before .before .before .before .before .before .before .before .args .a)) in
-    let en : c .before .before .before .capture-of .result .node ≡ c .before .before .before .before .before .before .extend .result .node = ap (λ (x : Capture). x .node) (c .before .before .before .capture-of .ensures) in
-    λ k h. visit-captures k _ (c .before .before .before .before .before .before .before .before .before .before .before .args .tree .now) (c .before .before .before .before .before .before .before .before .before .before .before .args .set) (c .before .before .before .before .before .before .before .before .before .before .before .args .st) (c .before .before .before .before .before .before .before .before .poll .result) (c .before .before .before .before .before .before .before .before .before .before .before .args .words .now) (c .before .before .before .before .before .before .before .before .before .before .before .args .history .now) (c .before .before .before .before .before .before .before .before .before .before .before .args .a) h (c .before .before .before .before .before .before .before .before .poll .ensures) (c .before .before .before .before .before .before .before .if1 .left) (c .before .before .before .before .before .before .extend .result) (c .before .before .before .before .before .before .extend .ensures) (c .before .before .before .before .before .if2 .taken) _
-    (c .before .before .captures .ensures k (omega (arith, h, same .0)) ∙ ap (capturesF k (c .before .before .before .before .before .before .before .before .before .before .before .args .set) (c .before .before .before .before .before .before .before .before .before .before .before .args .tree .now) (c .before .before .before .before .before .before .before .before .poll .result) (c .before .before .before .before .before .before .before .before .before .before .before .args .words .now)) (c .before .before .before .capture-of .ensures))
+    let same = subst (λ (y : Args). Same y (c .before .before .before .before .before .before .before .before .before .before .before .before .args .a)) (sym (c .before .before .before .before .before .before .before .extend .ensures)) (extend-same (c .before .before .before .before .before .before .before .before .before .before .before .before .args .tree .now) (c .before .before .before .before .before .before .before .before .before .before .before .before .args .a)) in
+    let en : c .before .before .before .capture-of .result .node ≡ c .before .before .before .before .before .before .before .extend .result .node = ap (λ (x : Capture). x .node) (c .before .before .before .capture-of .ensures) in
+    λ k h. visit-captures k _ (c .before .before .before .before .before .before .before .before .before .before .before .before .args .tree .now) (c .before .before .before .before .before .before .before .before .before .before .before .before .args .set) (c .before .before .before .before .before .before .before .before .before .before .before .before .args .st) (c .before .before .before .before .before .before .before .before .before .poll .result) (c .before .before .before .before .before .before .before .before .before .before .before .before .args .words .now) (c .before .before .before .before .before .before .before .before .before .before .before .before .args .history .now) (c .before .before .before .before .before .before .before .before .before .before .before .before .args .a) h (c .before .before .before .before .before .before .before .before .before .poll .ensures) (c .before .before .before .before .before .before .before .before .if1 .left) (c .before .before .before .before .before .before .before .extend .result) (c .before .before .before .before .before .before .before .extend .ensures) (c .before .before .before .before .before .before .if2 .taken) _
+    (c .before .before .captures .ensures k (omega (arith, h, same .0)) ∙ ap₂ (λ (x : State) (y : Capture). capturesF k (c .before .before .before .before .before .before .before .before .before .before .before .before .args .set) (c .before .before .before .before .before .before .before .before .before .before .before .before .args .tree .now) x (c .before .before .before .before .before .before .before .before .before .before .before .before .args .words .now) y) (c .before .before .before .before .rebuilt .ensures) (c .before .before .before .capture-of .ensures))
 
 search-node-enter-requires : (t : ℕ) → search-node-lts.Need-enter-requires (search-node-calls t) (search-node-at t) search-node.Post
 search-node-enter-requires t c κs =
@@ -463,6 +468,9 @@ walk-turn-requires t c κs =
     let g = subst (Kid (c .before .before .before .before .before .before .before .before .before .args .tree .now) (c .before .before .before .before .before .before .before .before .before .args .here .node)) (sym (c .before .before .child .ensures)) (kid (c .before .before .before .before .before .before .before .before .before .args .set) (c .before .before .before .before .before .before .before .before .before .args .tree .now) (c .before .before .before .before .before .before .before .before .before .pre .1 .0 .accepted) (c .before .before .before .before .before .before .before .before .before .args .here .node) (c .before .before .before .before .loop .i) (c .before .before .before .before .before .hint-place .result) (c .before .before .before .before .before .before .before .before .before .pre .1 .1 .in-tree) (subst (Among (countOf (c .before .before .before .before .before .before .before .before .before .args .tree .now) (c .before .before .before .before .before .before .before .before .before .args .here .node))) (sym (c .before .before .before .before .before .hint-place .ensures)) (hint-among (c .before .before .before .before .before .before .before .before .before .args .tree .now) (c .before .before .before .before .before .before .before .before .before .args .here) (c .before .before .before .before .before .before .before .before .before .args .loc))) (omega (arith, c .before .before .before .loop-test .taken, c .before .before .before .before .before .before .child-count .ensures))) in
     (omega (arith, c .before .before .before .before .before .before .before .before .before .pre .0), (still-ready (c .before .before .before .before .before .before .before .before .before .args .set) (c .before .before .before .before .before .before .before .before .before .args .tree .now) _ _ _ _ (c .before .before .before .before .before .before .before .before .before .pre .1 .0) (c .before .before .before .before .loop .inv .1 .0) (c .before .before .before .before .loop .inv .1 .1 .0), (c .before .before .before .before .before .before .before .before .before .pre .1 .1, (g, omega (arith, c .before .before .before .loop-test .taken, c .before .before .before .before .before .before .child-count .ensures, count-most (c .before .before .before .before .before .before .before .before .before .args .set .inf) (c .before .before .before .before .before .before .before .before .before .args .set .«max_ply») (c .before .before .before .before .before .before .before .before .before .args .tree .now) (c .before .before .before .before .before .before .before .before .before .pre .1 .0 .accepted) (c .before .before .before .before .before .before .before .before .before .args .here .node) (c .before .before .before .before .before .before .before .before .before .pre .1 .1 .in-tree))))))
 
+walk-goes-on-requires : (t : ℕ) → walk-lts.Need-goes-on-requires (walk-calls t) (walk-at t) walk.Post walk-Inv-loop walk-μ-loop
+walk-goes-on-requires t c κs = tt
+
 walk-cutoff-requires : (t : ℕ) → walk-lts.Need-cutoff-requires (walk-calls t) (walk-at t) walk.Post walk-Inv-loop walk-μ-loop
 walk-cutoff-requires t c κs =
     let r = c .before .before .before .before .before .before .before .before .before .before .before .before .before .before .before .before .before .pre .1 .0 in
@@ -489,7 +497,7 @@ walk-same-length-2 t c = c .before .before .before .cutoff .kept .1 .1 .0 ∙ c 
 
 walk-returns : (t : ℕ) → walk-lts.Need-returns (walk-calls t) (walk-at t) walk.Post walk-Inv-loop walk-μ-loop
 walk-returns t c =
-    λ k h. c .before .before .before .cutoff .ensures ∙ ap (λ (x : ℕ). cutoffOf (c .before .before .before .before .before .before .before .before .before .before .before .before .before .before .before .before .before .before .before .before .before .args .tree .now) (c .before .before .before .before .before .before .before .before .before .before .before .before .before .before .before .before .before .before .before .before .before .args .set) (c .before .before .before .before .before .before .before .before .before .before .before .before .before .before .before .before .before .before .before .before .before .args .here) (c .before .before .before .before .before .before .before .before .before .before .before .before .before .before .before .before .before .hint-place .result) x (c .before .before .before .before .before .before .before .before .before .before .before .before .before .before .before .before .loop .i) (c .before .before .before .before .before .before .before .before .before .before .before .turn .result .loc) (c .before .before .before .before .before .before .before .before .before .before .before .turn .last .1 .0) (c .before .before .before .before .before .before .before .before .before .before .before .turn .last .1 .1 .0)) (c .before .before .before .before .before .before .before .before .before .before .before .before .before .before .child .ensures)
+    λ k h. c .before .before .before .cutoff .ensures ∙ ap₂ (λ (x : ℕ) (y : Loc). cutoffOf (c .before .before .before .before .before .before .before .before .before .before .before .before .before .before .before .before .before .before .before .before .before .args .tree .now) (c .before .before .before .before .before .before .before .before .before .before .before .before .before .before .before .before .before .before .before .before .before .args .set) (c .before .before .before .before .before .before .before .before .before .before .before .before .before .before .before .before .before .before .before .before .before .args .here) (c .before .before .before .before .before .before .before .before .before .before .before .before .before .before .before .before .before .hint-place .result) x (c .before .before .before .before .before .before .before .before .before .before .before .before .before .before .before .before .loop .i) y (c .before .before .before .before .before .before .before .before .before .before .before .turn .last .1 .0) (c .before .before .before .before .before .before .before .before .before .before .before .turn .last .1 .1 .0)) (c .before .before .before .before .before .before .before .before .before .before .before .before .before .before .child .ensures) (c .before .before .before .before .before .before .before .goes-on .ensures)
     ∙ sym (walk-cut (visitF k (c .before .before .before .before .before .before .before .before .before .before .before .before .before .before .before .before .before .before .before .before .before .args .tree .now) (c .before .before .before .before .before .before .before .before .before .before .before .before .before .before .before .before .before .before .before .before .before .args .set)) (c .before .before .before .before .before .before .before .before .before .before .before .before .before .before .before .before .before .before .before .before .before .args .tree .now) (c .before .before .before .before .before .before .before .before .before .before .before .before .before .before .before .before .before .before .before .before .before .args .set) (c .before .before .before .before .before .before .before .before .before .before .before .before .before .before .before .before .before .before .before .before .before .args .here) (c .before .before .before .before .before .before .before .before .before .before .before .before .before .before .before .before .before .hint-place .result) (c .before .before .before .before .before .before .before .before .before .before .before .before .before .before .before .before .before .before .child-count .result) (c .before .before .before .before .before .before .before .before .before .before .before .before .before .before .before .before .loop .i) (c .before .before .before .before .before .before .before .before .before .before .before .before .before .before .before .before .loop .l) (c .before .before .before .before .before .before .before .before .before .before .before .before .before .before .before .before .loop .words) (c .before .before .before .before .before .before .before .before .before .before .before .before .before .before .before .before .loop .history) (with (c .before .before .before .before .before .before .before .before .before .before .before .turn .result) (c .before .before .before .before .before .before .before .before .before .before .before .turn .last .1 .0) (c .before .before .before .before .before .before .before .before .before .before .before .turn .last .1 .1 .0)) (c .before .before .before .before .before .before .before .before .before .before .before .before .before .before .before .loop-test .taken) (c .before .before .before .before .before .before .before .before .before .before .before .turn .ensures k h ∙ ap (λ (x : ℕ). turnF (visitF k (c .before .before .before .before .before .before .before .before .before .before .before .before .before .before .before .before .before .before .before .before .before .args .tree .now) (c .before .before .before .before .before .before .before .before .before .before .before .before .before .before .before .before .before .before .before .before .before .args .set)) (c .before .before .before .before .before .before .before .before .before .before .before .before .before .before .before .before .before .before .before .before .before .args .tree .now) (c .before .before .before .before .before .before .before .before .before .before .before .before .before .before .before .before .before .before .before .before .before .args .set) (c .before .before .before .before .before .before .before .before .before .before .before .before .before .before .before .before .before .before .before .before .before .args .here) x (c .before .before .before .before .before .before .before .before .before .before .before .before .before .before .before .before .loop .i) (c .before .before .before .before .before .before .before .before .before .before .before .before .before .before .before .before .loop .l) (c .before .before .before .before .before .before .before .before .before .before .before .before .before .before .before .before .loop .words) (c .before .before .before .before .before .before .before .before .before .before .before .before .before .before .before .before .loop .history)) (c .before .before .before .before .before .before .before .before .before .before .before .before .before .before .child .ensures)) (c .before .before .before .before .before .before .if1 .taken))
     ∙ c .before .before .before .before .before .before .before .before .before .before .before .before .before .before .before .before .loop .inv .1 .1 .1 k h ∙ ap₂ (λ (x : Place) (y : ℕ). walkF (visitF k (c .before .before .before .before .before .before .before .before .before .before .before .before .before .before .before .before .before .before .before .before .before .args .tree .now) (c .before .before .before .before .before .before .before .before .before .before .before .before .before .before .before .before .before .before .before .before .before .args .set)) (c .before .before .before .before .before .before .before .before .before .before .before .before .before .before .before .before .before .before .before .before .before .args .tree .now) (c .before .before .before .before .before .before .before .before .before .before .before .before .before .before .before .before .before .before .before .before .before .args .set) (c .before .before .before .before .before .before .before .before .before .before .before .before .before .before .before .before .before .before .before .before .before .args .here) x y 0 (c .before .before .before .before .before .before .before .before .before .before .before .before .before .before .before .before .before .before .before .before .before .args .loc) (c .before .before .before .before .before .before .before .before .before .before .before .before .before .before .before .before .before .before .before .before .before .args .words .now) (c .before .before .before .before .before .before .before .before .before .before .before .before .before .before .before .before .before .before .before .before .before .args .history .now)) (c .before .before .before .before .before .before .before .before .before .before .before .before .before .before .before .before .before .hint-place .ensures) (c .before .before .before .before .before .before .before .before .before .before .before .before .before .before .before .before .before .before .child-count .ensures)
 
@@ -501,7 +509,7 @@ walk-loop-less t c = omega arith
 
 walk-loop-again : (t : ℕ) → walk-lts.Need-loop-again (walk-calls t) (walk-at t) walk.Post walk-Inv-loop walk-μ-loop
 walk-loop-again t c =
-    (omega arith, (c .before .before .before .before .before .turn .kept .1 .0 ∙ c .before .before .before .before .before .before .before .before .before .before .loop .inv .1 .0, (c .before .before .before .before .before .turn .kept .1 .1 .0 ∙ c .before .before .before .before .before .before .before .before .before .before .loop .inv .1 .1 .0, λ k h. sym (walk-next (visitF k (c .before .before .before .before .before .before .before .before .before .before .before .before .before .before .before .args .tree .now) (c .before .before .before .before .before .before .before .before .before .before .before .before .before .before .before .args .set)) (c .before .before .before .before .before .before .before .before .before .before .before .before .before .before .before .args .tree .now) (c .before .before .before .before .before .before .before .before .before .before .before .before .before .before .before .args .set) (c .before .before .before .before .before .before .before .before .before .before .before .before .before .before .before .args .here) (c .before .before .before .before .before .before .before .before .before .before .before .hint-place .result) (c .before .before .before .before .before .before .before .before .before .before .before .before .child-count .result) (c .before .before .before .before .before .before .before .before .before .before .loop .i) (c .before .before .before .before .before .before .before .before .before .before .loop .l) (c .before .before .before .before .before .before .before .before .before .before .loop .words) (c .before .before .before .before .before .before .before .before .before .before .loop .history) (with (c .before .before .before .before .before .turn .result) (c .before .before .before .before .before .turn .last .1 .0) (c .before .before .before .before .before .turn .last .1 .1 .0)) (c .before .before .before .before .before .before .before .before .before .loop-test .taken) (c .before .before .before .before .before .turn .ensures k h ∙ ap (λ (x : ℕ). turnF (visitF k (c .before .before .before .before .before .before .before .before .before .before .before .before .before .before .before .args .tree .now) (c .before .before .before .before .before .before .before .before .before .before .before .before .before .before .before .args .set)) (c .before .before .before .before .before .before .before .before .before .before .before .before .before .before .before .args .tree .now) (c .before .before .before .before .before .before .before .before .before .before .before .before .before .before .before .args .set) (c .before .before .before .before .before .before .before .before .before .before .before .before .before .before .before .args .here) x (c .before .before .before .before .before .before .before .before .before .before .loop .i) (c .before .before .before .before .before .before .before .before .before .before .loop .l) (c .before .before .before .before .before .before .before .before .before .before .loop .words) (c .before .before .before .before .before .before .before .before .before .before .loop .history)) (c .before .before .before .before .before .before .before .before .child .ensures)) (c .if1 .left)) ∙ c .before .before .before .before .before .before .before .before .before .before .loop .inv .1 .1 .1 k h)))
+    (omega arith, (c .before .before .before .before .before .turn .kept .1 .0 ∙ c .before .before .before .before .before .before .before .before .before .before .loop .inv .1 .0, (c .before .before .before .before .before .turn .kept .1 .1 .0 ∙ c .before .before .before .before .before .before .before .before .before .before .loop .inv .1 .1 .0, λ k h. ap (λ (x : Loc). walkF (visitF k (c .before .before .before .before .before .before .before .before .before .before .before .before .before .before .before .args .tree .now) (c .before .before .before .before .before .before .before .before .before .before .before .before .before .before .before .args .set)) (c .before .before .before .before .before .before .before .before .before .before .before .before .before .before .before .args .tree .now) (c .before .before .before .before .before .before .before .before .before .before .before .before .before .before .before .args .set) (c .before .before .before .before .before .before .before .before .before .before .before .before .before .before .before .args .here) (c .before .before .before .before .before .before .before .before .before .before .before .hint-place .result) (c .before .before .before .before .before .before .before .before .before .before .before .before .child-count .result - (c .before .before .before .before .before .before .before .before .before .before .loop .i + 1)) (c .before .before .before .before .before .before .before .before .before .before .loop .i + 1) x (c .before .before .before .before .before .turn .last .1 .0) (c .before .before .before .before .before .turn .last .1 .1 .0)) (c .before .goes-on .ensures) ∙ sym (walk-next (visitF k (c .before .before .before .before .before .before .before .before .before .before .before .before .before .before .before .args .tree .now) (c .before .before .before .before .before .before .before .before .before .before .before .before .before .before .before .args .set)) (c .before .before .before .before .before .before .before .before .before .before .before .before .before .before .before .args .tree .now) (c .before .before .before .before .before .before .before .before .before .before .before .before .before .before .before .args .set) (c .before .before .before .before .before .before .before .before .before .before .before .before .before .before .before .args .here) (c .before .before .before .before .before .before .before .before .before .before .before .hint-place .result) (c .before .before .before .before .before .before .before .before .before .before .before .before .child-count .result) (c .before .before .before .before .before .before .before .before .before .before .loop .i) (c .before .before .before .before .before .before .before .before .before .before .loop .l) (c .before .before .before .before .before .before .before .before .before .before .loop .words) (c .before .before .before .before .before .before .before .before .before .before .loop .history) (with (c .before .before .before .before .before .turn .result) (c .before .before .before .before .before .turn .last .1 .0) (c .before .before .before .before .before .turn .last .1 .1 .0)) (c .before .before .before .before .before .before .before .before .before .loop-test .taken) (c .before .before .before .before .before .turn .ensures k h ∙ ap (λ (x : ℕ). turnF (visitF k (c .before .before .before .before .before .before .before .before .before .before .before .before .before .before .before .args .tree .now) (c .before .before .before .before .before .before .before .before .before .before .before .before .before .before .before .args .set)) (c .before .before .before .before .before .before .before .before .before .before .before .before .before .before .before .args .tree .now) (c .before .before .before .before .before .before .before .before .before .before .before .before .before .before .before .args .set) (c .before .before .before .before .before .before .before .before .before .before .before .before .before .before .before .args .here) x (c .before .before .before .before .before .before .before .before .before .before .loop .i) (c .before .before .before .before .before .before .before .before .before .before .loop .l) (c .before .before .before .before .before .before .before .before .before .before .loop .words) (c .before .before .before .before .before .before .before .before .before .before .loop .history)) (c .before .before .before .before .before .before .before .before .child .ensures)) (c .if1 .left)) ∙ c .before .before .before .before .before .before .before .before .before .before .loop .inv .1 .1 .1 k h)))
 
 walk-unfinished-requires : (t : ℕ) → walk-lts.Need-unfinished-requires (walk-calls t) (walk-at t) walk.Post walk-Inv-loop walk-μ-loop
 walk-unfinished-requires t c κs = tt
@@ -584,6 +592,7 @@ pub +deepen+reduced+search-node+turn+walk+widened-spec : {M : Type 1} → statem
     (search-node-answer-requires t)
     (search-node-returns t)
     (search-node-extend-requires t)
+    (search-node-rebuilt-requires t)
     (search-node-capture-of-requires t)
     (search-node-captures-requires t)
     (search-node-same-length t)
@@ -626,6 +635,7 @@ pub +deepen+reduced+search-node+turn+walk+widened-spec : {M : Type 1} → statem
     (walk-loop-holds t)
     (walk-child-requires t)
     (walk-turn-requires t)
+    (walk-goes-on-requires t)
     (walk-cutoff-requires t)
     (walk-same-length t)
     (walk-same-length-2 t)
