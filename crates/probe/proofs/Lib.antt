@@ -1,0 +1,5 @@
+pub mod Floats
+pub mod Halving
+pub mod Lengths
+pub mod Lines
+pub mod Sums
