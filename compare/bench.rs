@@ -1,5 +1,6 @@
 //! Times the root search: the Rust text over a tree beside the proved library, in one process, on the same trees and settings. Both
 //! answers are compared first. The table is cleared before each search; the order of the two changes from round to round.
+use std::process::Command;
 use std::time::Instant;
 
 use crate::request::Request;
@@ -70,6 +71,7 @@ fn request(tree: &[u8], switches: u8) -> Request {
 }
 
 /// Seconds of the search alone, without the reading of the tree, and the answer.
+#[inline(never)]
 fn rust(r: &Request) -> (f64, Answer) {
     let nodes = read_tree(&r.tree, INF, MAX_PLY).ok().unwrap();
     let mut game = searches::game(r, nodes, 0);
@@ -135,7 +137,34 @@ fn line(name: &str, size: usize, width: usize, switches: u8) {
     );
 }
 
+/// The whole program on a full tree: the middle of 400 runs, from its start to its end.
+fn program(width: usize) {
+    let path = "target/compare/full.tree";
+    std::fs::write(path, tree(3_968, width)).unwrap();
+    let mut times: Vec<f64> = (0..400)
+        .map(|_| {
+            let start = Instant::now();
+            let input = std::fs::File::open(path).unwrap();
+            let done = Command::new("target/bin/adjudicate").stdin(input).output().unwrap();
+            assert!(done.stdout.starts_with(b"score "));
+            start.elapsed().as_secs_f64() * 1e3
+        })
+        .collect();
+    times.sort_by(f64::total_cmp);
+    println!("the program on a full tree of {width} children a node: {:.2} ms", times[200]);
+}
+
+/// One search by each side, for a count of instructions (callgrind).
+#[inline(never)]
+fn once() {
+    let r = request(&tree(3_968, 6), NO_TABLE);
+    assert_eq!(rust(&r).1, desk(&r).1);
+}
+
 pub fn run() {
+    if std::env::args().nth(1).as_deref() == Some("once") {
+        return once();
+    }
     println!("| switches | tree | children | nodes searched | Rust Mn/s | desk Mn/s | ratio | tree check | desk Mn/s with it |");
     println!("|---|---|---|---|---|---|---|---|---|");
     for (name, switches) in [("all on", ALL), ("table off", NO_TABLE), ("all off", NONE)] {
@@ -146,4 +175,6 @@ pub fn run() {
     for size in [248, 496, 992, 1_984] {
         line("all on", size, 6, ALL);
     }
+    program(6);
+    program(62);
 }
