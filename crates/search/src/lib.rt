@@ -249,7 +249,8 @@ fn widened(
 {
     if window::inside(here, loc, r) {
         let s = r.state;
-        return search_node(tree, words, history, set, s, window::full(here, loc, c));
+        let q = search_node(tree, words, history, set, s, window::full(here, loc, c));
+        return q;
     }
     r
 }

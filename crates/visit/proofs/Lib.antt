@@ -2,3 +2,4 @@ pub mod Tested
 pub mod Numbers
 pub mod Probing
 pub mod Credits
+pub mod Negated

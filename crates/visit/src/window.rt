@@ -1,6 +1,8 @@
 // One move's turn: the windows in which its child is visited, and what the answer makes of the walk.
 ghost use mathlib.Core.Path.{_≡_};
 ghost use Prim.Native.Nat.{_+_, _≤_, _<_, _^_};
+ghost use lib.Signed.{ltZ};
+ghost use Rattle.score.specs.Wrap.{neg16};
 ghost use Rattle.tree.specs.Blocks.{Blocked, nodesOf};
 ghost use Rattle.visit.specs.Window.{unfinished, countedOf, fullOf, nullOf, firstBest, againOf, insideOf, judgeOf};
 use crate::Args;
@@ -86,6 +88,27 @@ pub fn first(tree: &[u8], loc: Loc, c: usize, r: Out) -> Loc
     }
 }
 
+// Whether a child's score, negated, is above alpha. A sum of 32 bits tells it sooner than a negation of 16 does; -32,768 is its own
+// negation.
+fn beats(alpha: i16, score: i16) -> bool
+    ensures { λ r. ⌜ r ≡ ltZ alpha (neg16 score) ⌝ }
+{
+    if score < -32767 {
+        return false;
+    }
+    (alpha as i32) + (score as i32) < 0
+}
+
+// Whether a child's score, negated, is below beta.
+fn under(score: i16, beta: i16) -> bool
+    ensures { λ r. ⌜ r ≡ ltZ (neg16 score) beta ⌝ }
+{
+    if score < -32767 {
+        return -32768 < beta;
+    }
+    0 < (beta as i32) + (score as i32)
+}
+
 // Whether a reduced visit beat alpha.
 pub fn again(loc: Loc, d: u8, r: Out) -> bool
     ensures { λ q. ⌜ q ≡ againOf loc d r ⌝ }
@@ -93,16 +116,15 @@ pub fn again(loc: Loc, d: u8, r: Out) -> bool
     if d == 0 {
         return false;
     }
-    loc.alpha < neg16(r.score)
+    beats(loc.alpha, r.score)
 }
 
 // Whether a null window's score lies strictly inside the window.
 pub fn inside(here: Here, loc: Loc, r: Out) -> bool
     ensures { λ q. ⌜ q ≡ insideOf here loc r ⌝ }
 {
-    let score = neg16(r.score);
-    if loc.alpha < score {
-        return score < here.beta;
+    if beats(loc.alpha, r.score) {
+        return under(r.score, here.beta);
     }
     false
 }

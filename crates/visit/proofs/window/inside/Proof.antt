@@ -1,11 +1,11 @@
 -- `visit::window::inside` meets its contract: the score against alpha, then against beta. Assumes nothing.
-use mathlib.Core.Path.{_≡_}
+use mathlib.Core.Path.{_≡_, sym, _∙_}
 use borrow.Author.Needs.{needs}
+use lib.Signed.{ltZ}
 use mir.Syntax.{w16}
-use mir.Val.{SFits, toZ, ofZ}
+use mir.Val.{SFits}
 use mir.Facts.{toZ-ofZ}
 use Rattle.score.specs.Wrap.{neg16}
-use Rattle.score.proofs.Bits.{through, said}
 use Rattle.visit.specs.Window.{insideOf}
 use Rattle.visit.proofs.window.inside.Statement.{statement}
 use Rattle.visit.proofs.window.inside.Tie as tie
@@ -19,24 +19,28 @@ beta-fits c = search needs
 score-fits : (c : tie.Start) → SFits w16 (c .args .r .score)
 score-fits c = search needs
 
-turned-fits : (c : tie.After-neg16) → SFits w16 (c .neg16 .result)
-turned-fits c = search needs
+beats-requires : tie.Need-beats-requires
+beats-requires c κs = search needs
 
-turned : (c : tie.After-neg16) → toZ w16 (ofZ w16 (c .neg16 .result)) ≡ neg16 (c .before .before .args .r .score)
-turned c = through (turned-fits c .sfits) (said neg16 (score-fits (c .before .before) .sfits) (c .neg16 .ensures))
+under-requires : tie.Need-under-requires
+under-requires c κs = search needs
 
-neg16-requires : tie.Need-neg16-requires
-neg16-requires c κs = search needs
+-- what the first test says
+told : (c : tie.After-beats) → ltZ (c .before .before .before .args .loc .alpha) (neg16 (c .before .before .before .args .r .score)) ≡ c .beats .result
+told c =
+    let s = c .before .before .before in
+    sym (simp (toZ-ofZ (alpha-fits s), toZ-ofZ (score-fits s)) at (c .beats .ensures))
 
 returns : tie.Need-returns
 unfolding insideOf
 returns c =
-    let s = c .before .before .before .before .before .before .before in
-    simp (toZ-ofZ (beta-fits s), turned (c .before .before .before .before .before), simp (toZ-ofZ (alpha-fits s), turned (c .before .before .before .before .before)) at (c .before .before .if1 .taken))
+    let t = c .before .before .before in
+    let s = t .before .before .before .before in
+    simp (told (t .before) ∙ t .if1 .taken, simp (toZ-ofZ (beta-fits s), toZ-ofZ (score-fits s)) at (c .under .ensures))
 
 returns-2 : tie.Need-returns-2
 unfolding insideOf
-returns-2 c = let s = c .before .before .before .before .before in simp (simp (toZ-ofZ (alpha-fits s), turned (c .before .before .before)) at (c .if1 .left))
+returns-2 c = simp (told (c .before) ∙ c .if1 .left)
 
 pub inside-spec : {M : Type 1} → statement M
-inside-spec = tie.close (tie.spec neg16-requires returns returns-2)
+inside-spec = tie.close (tie.spec beats-requires under-requires returns returns-2)
