@@ -1,14 +1,14 @@
 -- The tests of the table's entries that antt computes over the whole table, and what each says of one entry or of two neighbours.
 -- Assumes nothing.
-use mathlib.Core.Path.{_≡_, refl, subst, _∙_}
+use mathlib.Core.Path.{_≡_, refl, subst}
 use mathlib.Core.Bool.{Bool, true, false, cond, _&&_, _||_}
 use Prim.Native.Nat.{ℕ, _+_, _*_, _/_, _%_, _<_, _≤_}
 use native.Mathlib.Omega.{arith}
-use lib.Dec.{T, leb, eqb, leb→le, eqb→eq}
+use lib.Dec.{T, leb, ltb, eqb, leb→le, ltb→lt, eqb→eq}
 use lib.ListN.{length, getD, drop}
-use lib.Seq.{getD-take, getD-drop}
+use lib.Seq.{getD-drop}
 use borrow.Author.Tests.{eq-eqb, ne-eqb}
-use Rattle.reductions.specs.Reductions.{reductions, rowOf, entryOf}
+use Rattle.reductions.specs.Reductions.{reductions, entryOf}
 use Rattle.reductions.proofs.Pairs.{and-left, and-right, at}
 
 -- 01, Visits: "2,048 reductions"
@@ -42,9 +42,13 @@ next-down : (k : ℕ) → k + 64 < 2048 → T (down k (getD reductions k 0) (get
 unfolding reductions down
 next-down k h = at down reductions (drop 64 reductions) tt k (omega arith) (omega arith)
 
--- a row's entry is the table's
-pub in-row : (d m : ℕ) → m < 64 → getD (rowOf d) m 0 ≡ entryOf d m
-in-row d m h = getD-take 64 (drop (d * 64) reductions) m 0 h ∙ getD-drop (d * 64) reductions m 0
+unfoldable digit : ℕ → ℕ → ℕ → Bool
+digit k x y = ltb x 16
+
+-- an entry is a hex digit
+pub entry-small : (k : ℕ) → k < 2048 → getD reductions k 0 < 16
+unfolding reductions digit
+entry-small k h = ltb→lt (getD reductions k 0) 16 (at digit reductions reductions tt k h h)
 
 pub row-zero : (m : ℕ) → m ≤ 63 → entryOf 0 m ≡ 0
 unfolding range edge

@@ -1,2 +1,3 @@
 pub mod Reductions
 pub mod Rules
+pub mod Packed

@@ -1,12 +1,13 @@
 // The reductions of late moves: a constant table, a row for each depth and a column for each count of moves.
 mod lmr;
 
+use crate::lmr::Quarters;
 ghost use mathlib.Core.Path.{_≡_};
-ghost use Prim.Native.Nat.{_≤_};
-ghost use Rattle.reductions.specs.Reductions.{rowOf, reductionOf};
+ghost use Prim.Native.Nat.{_*_, _/_, _%_, _^_, _<_, _≤_};
+ghost use Rattle.reductions.specs.Reductions.{reductionOf};
+ghost use Rattle.reductions.specs.Packed.{rowOf, quarterOf};
 
-// The row of a depth.
-fn row(depth: usize) -> [u8; 64]
+fn row(depth: usize) -> Quarters
     requires { ⌜ depth ≤ 31 ⌝ }
     ensures { λ r. ⌜ r ≡ rowOf depth ⌝ }
 {
@@ -46,6 +47,30 @@ fn row(depth: usize) -> [u8; 64]
     }
 }
 
+// The number that has the columns 16q to 16q + 15.
+fn quarter(r: Quarters, q: usize) -> u64
+    ensures { λ w. ⌜ w ≡ quarterOf r q ⌝ }
+{
+    if q == 0 {
+        return r.first;
+    }
+    if q == 1 {
+        return r.second;
+    }
+    if q == 2 {
+        return r.third;
+    }
+    r.fourth
+}
+
+// The i-th hex digit, from the lowest.
+fn digit(w: u64, i: usize) -> u8
+    requires { ⌜ i < 16 ⌝ }
+    ensures { λ r. ⌜ r ≡ w / 2 ^ (4 * i) % 16 ⌝ }
+{
+    ((w >> (4 * i)) % 16) as u8
+}
+
 // How much shallower the moves-th move at a depth is searched; outside of the table nothing is taken off.
 pub fn reduction(depth: usize, moves: usize) -> u8
     ensures { λ r. ⌜ r ≡ reductionOf depth moves ⌝ }
@@ -56,6 +81,6 @@ pub fn reduction(depth: usize, moves: usize) -> u8
     if moves > 63 {
         return 0;
     }
-    let r = row(depth);
-    r[moves]
+    let w = quarter(row(depth), moves / 16);
+    digit(w, moves % 16)
 }
