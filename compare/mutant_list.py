@@ -189,7 +189,7 @@ CLOCK = [
     ("if delta + self.elapsed_time() > self.allocated_time() {", "if delta + self.elapsed_time() >= self.allocated_time() {"),
     ("((ply - 1) / 2) as u16", "(ply / 2) as u16"),
     ("level - (moves_played % level)", "level - (moves_played % level.max(2))"),
-    ("20 // TODO", "level.max(21) // TODO"),
+    ("{ // Sudden death\n            20 ", "{ // Sudden death\n            level.max(21) "),
     ("        self.is_finished.store(false, Ordering::Relaxed);\n        self.last", "        self.last"),
     ("        self.last_nodes_count = 0;\n        self.started_at", "        self.started_at"),
     ("            self.last_nodes_count = nodes_count;\n", ""),
