@@ -6,6 +6,7 @@ use Prim.Native.Nat.{ℕ, zero, suc, _+_, _-_, _≤_, _<_}
 use native.Mathlib.Nat.{not-suc-le-zero}
 use native.Mathlib.Omega.{arith}
 use lib.IntN.{ℤ}
+use Rattle.tree.specs.Blocks.{nodesOf}
 use Rattle.record.specs.Node.{firstOf, countOf, evalOf, hashOf, isQuiet}
 use Rattle.state.specs.declared.Settings.{Settings}
 use Rattle.state.specs.declared.State.{State}
@@ -97,39 +98,46 @@ unfolding noisyPlace
 noisy-among t h l =
     among-noisy t (countOf t (h .node)) (firstOf t (h .node)) _ (place-among t (firstOf t (h .node)) (countOf t (h .node)) (l .mv))
 
+-- the i-th child in the order of the walk
+pub kid-at : (set : Settings) (t : List ℕ) → AcceptedBy set t → (h : Here) (l : Loc) (p : Place) → p ≡ noisyPlace t h l → h .node < nodesOf t
+    → (i : ℕ) → i < countOf t (h .node) → Kid t (h .node) (childOf t (h .node) p i)
+kid-at set t ok h l p e r i lt = kid set t ok (h .node) i p r (subst (Among (countOf t (h .node))) (sym e) (noisy-among t h l)) lt
+
 -- the walk that is left to be made is that of the visit's own node, depth and ply
-abbrev Stays : Capture → Entered → Type 0
-Stays a (Answer o) = Unit {0}
-Stays a (Moves h l) = (h .node ≡ a .node) × ((h .below ≡ a .below) × (h .ply ≡ a .ply))
+abbrev pub Stays : Capture → Here → Type 0
+Stays a h = (h .node ≡ a .node) × ((h .below ≡ a .below) × (h .ply ≡ a .ply))
 
-stays-cut : (b : Bool) (w : Consulted) (s : State) (a : Capture) (old : ℤ) → Stays a (cutIf b w s a old)
+abbrev Leaves : Capture → Entered → Type 0
+Leaves a (Answer o) = Unit {0}
+Leaves a (Moves h l) = Stays a h
+
+leaves-cut : (b : Bool) (w : Consulted) (s : State) (a : Capture) (old : ℤ) → Leaves a (cutIf b w s a old)
 unfolding cutIf
-stays-cut true w s a old = tt
-stays-cut false w s a old = (refl, (refl, refl))
+leaves-cut true w s a old = tt
+leaves-cut false w s a old = (refl, (refl, refl))
 
-stays-pat : (b : Bool) (alpha : ℤ) (set : Settings) (t words : List ℕ) (s : State) (a : Capture) → Stays a (pattedIf b alpha set t words s a)
+leaves-pat : (b : Bool) (alpha : ℤ) (set : Settings) (t words : List ℕ) (s : State) (a : Capture) → Leaves a (pattedIf b alpha set t words s a)
 unfolding pattedIf
-stays-pat true alpha set t words s a = tt
-stays-pat false alpha set t words s a =
+leaves-pat true alpha set t words s a = tt
+leaves-pat false alpha set t words s a =
     let seen = seenOf (set .table) words s (hashOf t (a .node)) in
-    stays-cut (consulted seen a alpha .cut) (consulted seen a alpha) (seen .state) a alpha
+    leaves-cut (consulted seen a alpha .cut) (consulted seen a alpha) (seen .state) a alpha
 
-stays-stop : (b : Bool) (set : Settings) (t words : List ℕ) (s : State) (a : Capture) → Stays a (stopIf b set t words s a)
+leaves-stop : (b : Bool) (set : Settings) (t words : List ℕ) (s : State) (a : Capture) → Leaves a (stopIf b set t words s a)
 unfolding stopIf
-stays-stop true set t words s a = tt
-stays-stop false set t words s a =
+leaves-stop true set t words s a = tt
+leaves-stop false set t words s a =
     let p = standPat set (evalOf t (a .node)) a in
-    stays-pat (p .done) (p .alpha) set t words s a
+    leaves-pat (p .done) (p .alpha) set t words s a
 
-pub enter-stays : (set : Settings) (t words : List ℕ) (s : State) (a : Capture) (h : Here) (l : Loc) → Moves h l ≡ enterOf set t words s a
-    → (h .node ≡ a .node) × ((h .below ≡ a .below) × (h .ply ≡ a .ply))
+pub enter-stays : (set : Settings) (t words : List ℕ) (s : State) (a : Capture) (h : Here) (l : Loc) → Moves h l ≡ enterOf set t words s a → Stays a h
 unfolding enterOf
 enter-stays set t words s a h l e =
     let p = pollOf (set .limit) s in
-    subst (Stays a) (sym e) (stays-stop (p .stop) set t words p a)
+    subst (Leaves a) (sym e) (leaves-stop (p .stop) set t words p a)
 
 -- what is asked of a visit holds of its walk
-pub reach-walk : (t : List ℕ) (a : Capture) (h : Here) → (h .node ≡ a .node) × ((h .below ≡ a .below) × (h .ply ≡ a .ply)) → Reach t (a .node) (a .below) (a .ply) → Reach t (h .node) (h .below) (h .ply)
+pub reach-walk : (t : List ℕ) (a : Capture) (h : Here) → Stays a h → Reach t (a .node) (a .below) (a .ply) → Reach t (h .node) (h .below) (h .ply)
 reach-walk t a h (n, (b, p)) r = rw (n, b, p) r
 
 -- a child is where a capture visit can be

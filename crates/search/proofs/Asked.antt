@@ -8,13 +8,18 @@ use lib.Dec.{eqb, ltb}
 use lib.IntN.{ℤ}
 use lib.ListN.{length}
 use borrow.Author.Tests.{ltb-true}
+use Rattle.tree.specs.Blocks.{nodesOf}
 use Rattle.record.specs.Node.{firstOf, countOf, hashOf, inCheck, isDraw}
 use Rattle.tree.proofs.Every.{two}
 use Rattle.state.specs.declared.Settings.{Settings}
 use Rattle.state.specs.declared.State.{State}
 use Rattle.state.specs.declared.Consulted.{Consulted}
+use Rattle.moves.specs.declared.Place.{Place}
+use Rattle.state.specs.Accepted.{AcceptedBy}
 use Rattle.moves.specs.Kid.{Kid}
+use Rattle.moves.specs.Order.{childOf}
 use Rattle.state.specs.State.{seenOf}
+use Rattle.moves.proofs.Kids.{kid}
 use Rattle.moves.proofs.Ordered.{Among, place-among}
 use Rattle.captures.specs.Reach as captures
 use Rattle.carry.specs.declared.Args.{Args}
@@ -50,6 +55,14 @@ pub extend-same : (t : List ℕ) (a : Args) → Same (extendOf t a) a
 unfolding extendOf
 extend-same t a = (refl, (refl, refl))
 
+-- the same of what `extend` returned
+module _ (t : List ℕ) (a x : Args) (ex : x ≡ extendOf t a) where
+  pub same-after : Same x a
+  same-after = subst (λ (y : Args). Same y a) (sym ex) (extend-same t a)
+
+  pub most-after : x .depth ≤ a .depth + 1
+  most-after = subst (λ (y : Args). y .depth ≤ a .depth + 1) (sym ex) (extend-most t a)
+
 -- the walk that is left to be made is that of the visit's own node, side, depth and ply
 abbrev pub Stays : Args → Here → Type 0
 Stays a h = (h .node ≡ a .node) × ((h .side ≡ a .side) × ((h .depth ≡ a .depth) × (h .ply ≡ a .ply)))
@@ -84,8 +97,8 @@ enter-stays set t words s a h l e = subst (Leaves a) (sym e) (leaves-draw (isDra
 -- a visit whose extended depth is not 0
 pub inside : (t : List ℕ) (a x : Args) (h : Here) → x ≡ extendOf t a → Reach t a → (x .depth ≡ 0 → ⊥) → Stays x h → Inside t h
 inside t a x h ex r z (n, (s, (d, p))) =
-    let same = subst (λ (y : Args). Same y a) (sym ex) (extend-same t a) in
-    let most = subst (λ (y : Args). y .depth ≤ a .depth + 1) (sym ex) (extend-most t a) in
+    let same = same-after t a x ex in
+    let most = most-after t a x ex in
     let en : h .node ≡ a .node = n ∙ same .0 in
     record {
       in-tree = rw en (r .in-tree);
@@ -98,7 +111,7 @@ inside t a x h ex r z (n, (s, (d, p))) =
 -- a capture visit at depth 0
 pub to-captures : (t : List ℕ) (a x : Args) → x ≡ extendOf t a → Reach t a → captures.Reach t (x .node) 1 (x .ply + 1)
 to-captures t a x ex r =
-    let same = subst (λ (y : Args). Same y a) (sym ex) (extend-same t a) in
+    let same = same-after t a x ex in
     rw (same .0, same .1 .1) (record { in-tree = r .in-tree; below-least = omega arith; ply-least = omega (arith, r .ply-most) })
 
 -- inner deepening
@@ -123,6 +136,11 @@ module _ (t : List ℕ) (h : Here) (l : Loc) (c : ℕ) (i : Inside t h) (k : Kid
 pub hint-among : (t : List ℕ) (h : Here) (l : Loc) → Among (countOf t (h .node)) (hintPlace t h l)
 unfolding hintPlace
 hint-among t h l = place-among t (firstOf t (h .node)) (countOf t (h .node)) (l .mv)
+
+-- the i-th child in the order of the walk
+pub kid-at : (set : Settings) (t : List ℕ) → AcceptedBy set t → (h : Here) (l : Loc) (p : Place) → p ≡ hintPlace t h l → h .node < nodesOf t
+    → (i : ℕ) → i < countOf t (h .node) → Kid t (h .node) (childOf t (h .node) p i)
+kid-at set t ok h l p e r i lt = kid set t ok (h .node) i p r (subst (Among (countOf t (h .node))) (sym e) (hint-among t h l)) lt
 
 -- a reduction leaves a depth
 reduction-if : (b : Bool) (t : List ℕ) (h : Here) (c i : ℕ) → reductionIf b t h c i ≤ h .depth - 1

@@ -1,13 +1,13 @@
+-- The cycle of the node search (search_node, deepen, walk, turn, reduced, widened) meets its contracts. The measure of a call is the nodes that
+-- remain, then the depth, then a number for the function. Each answer cites the laws of Turns, Visits and Asked. `s` is a function's start, and p, q
+-- earlier places. Assumes nothing.
 use Prim.Native.Nat.{ℕ, _+_, _-_, _*_, _<_, _≤_}
 use mathlib.Core.Path.{_≡_, refl, sym, ap, ap₂, subst, _∙_}
-use mathlib.Core.List.{List}
 use native.Mathlib.Nat.{sub-zero}
 use native.Mathlib.Omega.{arith}
 use borrow.Author.Needs.{needs}
-use lib.IntN.{ℤ}
 use lib.ListN.{length}
 use Rattle.tree.specs.Blocks.{nodesOf}
-use Rattle.record.specs.Node.{countOf, moveOf}
 use Rattle.tree.proofs.Accepted.{count-most}
 use Rattle.tree.proofs.Blocked.{record-in}
 use Rattle.state.specs.declared.Out.{Out}
@@ -15,9 +15,7 @@ use Rattle.state.specs.declared.State.{State}
 use Rattle.moves.specs.declared.Place.{Place}
 use Rattle.moves.specs.Kid.{Kid}
 use Rattle.moves.specs.Order.{childOf}
-use Rattle.state.specs.State.{over}
-use Rattle.moves.proofs.Kids.{blocked, laid, level-low, kid}
-use Rattle.moves.proofs.Ordered.{Among}
+use Rattle.moves.proofs.Kids.{blocked, laid, level-low}
 use Rattle.captures.specs.Reach as captures
 use Rattle.captures.specs.Captures.{capturesF}
 use Rattle.capture_steps.specs.declared.Capture.{Capture}
@@ -25,14 +23,13 @@ use Rattle.carry.specs.declared.Args.{Args}
 use Rattle.carry.specs.declared.Loc.{Loc}
 use Rattle.carry.specs.declared.Turn.{Turn}
 use Rattle.carry.specs.Carry.{with, beside}
-use Rattle.enter.specs.Enter.{hintPlace}
 use Rattle.leave.specs.Cutoff.{cutoffOf}
-use Rattle.turn.specs.Window.{judgeOf, fullOf, nullOf}
-use Rattle.search.specs.Reach.{Ready, Reach, Inside, need}
-use Rattle.search.specs.Search.{visitF, deepenF, walkF, walkHere, turnF, reducedF, widenF}
+use Rattle.turn.specs.Window.{judgeOf}
+use Rattle.search.specs.Reach.{Reach, Inside, need}
+use Rattle.search.specs.Search.{visitF, walkF, turnF}
 use Rattle.search.proofs.Turns.{widen-yes, widen-no, reduced-again, reduced-once, turn-first, turn-futile, turn-reduced, walk-next, walk-cut, walk-over}
 use Rattle.search.proofs.Visits.{deepen-yes, deepen-no, visit-stop, visit-captures, visit-answer, visit-moves}
-use Rattle.search.proofs.Asked.{Same, Stays, still-ready, extend-most, extend-same, enter-stays, inside, to-captures, deep-enough, to-inner, to-full, to-null, hint-among, reduction-most}
+use Rattle.search.proofs.Asked.{Same, Stays, still-ready, same-after, most-after, enter-stays, inside, to-captures, deep-enough, to-inner, to-full, to-null, kid-at, reduction-most}
 use borrow.Fn.Kinds.{In}
 use borrow.Fn.PlainCycle.{Measures, is, falls, and}
 use Rattle.search.proofs.deepen.Reads as deepen
@@ -140,19 +137,94 @@ abbrev widened-below : ℕ → In 3 widened-kinds.ps
 widened-below t = and 3 widened-kinds.ps (falls 3 widened-kinds.ps _<_ μ-widened t) widened.Pre
 
 abbrev deepen-calls : ℕ → deepen-lts.Claims
-deepen-calls t = (deepens-reads.Asked, deepens-reads.Learnt, inner-reads.Asked, inner-reads.Learnt, search-node-below t, search-node.Post, hinted-reads.Asked, hinted-reads.Learnt)
+deepen-calls t = (
+  deepens-reads.Asked,
+  deepens-reads.Learnt,
+  inner-reads.Asked,
+  inner-reads.Learnt,
+  search-node-below t,
+  search-node.Post,
+  hinted-reads.Asked,
+  hinted-reads.Learnt,
+)
 
 abbrev reduced-calls : ℕ → reduced-lts.Claims
-reduced-calls t = (null-reads.Asked, null-reads.Learnt, search-node-below t, search-node.Post, again-reads.Asked, again-reads.Learnt, widened-below t, widened.Post)
+reduced-calls t = (
+  null-reads.Asked,
+  null-reads.Learnt,
+  search-node-below t,
+  search-node.Post,
+  again-reads.Asked,
+  again-reads.Learnt,
+  widened-below t,
+  widened.Post,
+)
 
 abbrev search-node-calls : ℕ → search-node-lts.Claims
-search-node-calls t = (poll-reads.Asked, poll-reads.Learnt, answer-reads.Asked, answer-reads.Learnt, extend-reads.Asked, extend-reads.Learnt, rebuilt-reads.Asked, rebuilt-reads.Learnt, capture-of-reads.Asked, capture-of-reads.Learnt, captures-reads.Asked, captures-reads.Learnt, enter-reads.Asked, enter-reads.Learnt, deepen-below t, deepen.Post, walk-below t, walk.Post, finish-reads.Asked, finish-reads.Learnt)
+search-node-calls t = (
+  poll-reads.Asked,
+  poll-reads.Learnt,
+  answer-reads.Asked,
+  answer-reads.Learnt,
+  extend-reads.Asked,
+  extend-reads.Learnt,
+  rebuilt-reads.Asked,
+  rebuilt-reads.Learnt,
+  capture-of-reads.Asked,
+  capture-of-reads.Learnt,
+  captures-reads.Asked,
+  captures-reads.Learnt,
+  enter-reads.Asked,
+  enter-reads.Learnt,
+  deepen-below t,
+  deepen.Post,
+  walk-below t,
+  walk.Post,
+  finish-reads.Asked,
+  finish-reads.Learnt,
+)
 
 abbrev turn-calls : ℕ → turn-lts.Claims
-turn-calls t = (counted-reads.Asked, counted-reads.Learnt, move-to-reads.Asked, move-to-reads.Learnt, full-reads.Asked, full-reads.Learnt, search-node-below t, search-node.Post, first-reads.Asked, first-reads.Learnt, judge-reads.Asked, judge-reads.Learnt, futile-reads.Asked, futile-reads.Learnt, unfinished-reads.Asked, unfinished-reads.Learnt, reduction-reads.Asked, reduction-reads.Learnt, reduced-below t, reduced.Post)
+turn-calls t = (
+  counted-reads.Asked,
+  counted-reads.Learnt,
+  move-to-reads.Asked,
+  move-to-reads.Learnt,
+  full-reads.Asked,
+  full-reads.Learnt,
+  search-node-below t,
+  search-node.Post,
+  first-reads.Asked,
+  first-reads.Learnt,
+  judge-reads.Asked,
+  judge-reads.Learnt,
+  futile-reads.Asked,
+  futile-reads.Learnt,
+  unfinished-reads.Asked,
+  unfinished-reads.Learnt,
+  reduction-reads.Asked,
+  reduction-reads.Learnt,
+  reduced-below t,
+  reduced.Post,
+)
 
 abbrev walk-calls : ℕ → walk-lts.Claims
-walk-calls t = (child-count-reads.Asked, child-count-reads.Learnt, hint-place-reads.Asked, hint-place-reads.Learnt, child-reads.Asked, child-reads.Learnt, turn-below t, turn.Post, goes-on-reads.Asked, goes-on-reads.Learnt, cutoff-reads.Asked, cutoff-reads.Learnt, unfinished-reads.Asked, unfinished-reads.Learnt)
+walk-calls t = (
+  child-count-reads.Asked,
+  child-count-reads.Learnt,
+  hint-place-reads.Asked,
+  hint-place-reads.Learnt,
+  child-reads.Asked,
+  child-reads.Learnt,
+  turn-below t,
+  turn.Post,
+  goes-on-reads.Asked,
+  goes-on-reads.Learnt,
+  cutoff-reads.Asked,
+  cutoff-reads.Learnt,
+  unfinished-reads.Asked,
+  unfinished-reads.Learnt,
+)
 
 abbrev widened-calls : ℕ → widened-lts.Claims
 widened-calls t = (inside-reads.Asked, inside-reads.Learnt, full-reads.Asked, full-reads.Learnt, search-node-below t, search-node.Post)
@@ -162,20 +234,34 @@ deepen-deepens-requires t c κs = tt
 
 deepen-inner-requires : (t : ℕ) → deepen-lts.Need-inner-requires (deepen-calls t) (deepen-at t) deepen.Post
 deepen-inner-requires t c κs =
-    let d = deep-enough (c .before .before .before .before .before .before .before .args .set) (c .before .before .before .before .before .before .before .args .here) (c .before .before .before .before .before .before .before .args .loc) (sym (c .before .before .before .before .deepens .ensures) ∙ c .before .before .before .if1 .taken) in omega arith
+    let s = c .before .before .before .before .before .before .before in
+    let deepens = c .before .before .before .before .deepens in
+    let if1 = c .before .before .before .if1 in
+    let d = deep-enough (s .args .set) (s .args .here) (s .args .loc) (sym (deepens .ensures) ∙ if1 .taken) in omega arith
 
 deepen-search-node-requires : (t : ℕ) → deepen-lts.Need-search-node-requires (deepen-calls t) (deepen-at t) deepen.Post
 deepen-search-node-requires t c κs =
-    let d = deep-enough (c .before .before .before .before .before .before .before .before .args .set) (c .before .before .before .before .before .before .before .before .args .here) (c .before .before .before .before .before .before .before .before .args .loc) (sym (c .before .before .before .before .before .deepens .ensures) ∙ c .before .before .before .before .if1 .taken) in
+    let s = c .before .before .before .before .before .before .before .before in
+    let set = s .args .set in
+    let here = s .args .here in
+    let loc = s .args .loc in
+    let tree = s .args .tree .now in
+    let deepens = c .before .before .before .before .before .deepens in
+    let if1 = c .before .before .before .before .if1 in
+    let d = deep-enough set here loc (sym (deepens .ensures) ∙ if1 .taken) in
     let e = c .inner .ensures in
-    let en : c .inner .result .node ≡ c .before .before .before .before .before .before .before .before .args .here .node = ap (λ (x : Args). x .node) e in
-    let ed : c .inner .result .depth ≡ c .before .before .before .before .before .before .before .before .args .here .depth - 2 = ap (λ (x : Args). x .depth) e in
-    (omega (arith, c .before .before .before .before .before .before .before .before .pre .0), (c .before .before .before .before .before .before .before .before .pre .1 .0, subst (Reach (c .before .before .before .before .before .before .before .before .args .tree .now)) (sym e) (to-inner (c .before .before .before .before .before .before .before .before .args .tree .now) (c .before .before .before .before .before .before .before .before .args .here) (c .before .before .before .before .before .before .before .before .args .loc) (c .before .before .before .before .before .before .before .before .pre .1 .1))))
+    let en : c .inner .result .node ≡ here .node = ap (λ (x : Args). x .node) e in
+    let ed : c .inner .result .depth ≡ here .depth - 2 = ap (λ (x : Args). x .depth) e in
+    (omega (arith, s .pre .0), (s .pre .1 .0, subst (Reach tree) (sym e) (to-inner tree here loc (s .pre .1 .1))))
 
 deepen-hinted-requires : (t : ℕ) → deepen-lts.Need-hinted-requires (deepen-calls t) (deepen-at t) deepen.Post
 deepen-hinted-requires t c κs =
-    let r = c .before .before .before .before .before .before .before .before .before .before .before .before .before .pre .1 .0 in
-    (blocked (c .before .before .before .before .before .before .before .before .before .before .before .before .before .args .set) (c .before .before .before .before .before .before .before .before .before .before .before .before .before .args .tree .now) (r .accepted), (c .before .before .before .before .before .before .before .before .before .before .before .before .before .pre .1 .1 .in-tree, omega (arith, c .before .before .before .before .search-node .kept .1 .0, r .words-least)))
+    let s = c .before .before .before .before .before .before .before .before .before .before .before .before .before in
+    let set = s .args .set in
+    let tree = s .args .tree .now in
+    let search-node = c .before .before .before .before .search-node in
+    let r = s .pre .1 .0 in
+    (blocked set tree (r .accepted), (s .pre .1 .1 .in-tree, omega (arith, search-node .kept .1 .0, r .words-least)))
 
 deepen-same-length : (t : ℕ) → deepen-lts.Need-same-length (deepen-calls t) (deepen-at t) deepen.Post
 deepen-same-length t c = c .before .before .before .before .before .search-node .kept .1 .0
@@ -185,91 +271,191 @@ deepen-same-length-2 t c = c .before .before .before .before .before .search-nod
 
 deepen-returns : (t : ℕ) → deepen-lts.Need-returns (deepen-calls t) (deepen-at t) deepen.Post
 deepen-returns t c =
-    let d = deep-enough (c .before .before .before .before .before .before .before .before .before .before .before .before .before .before .args .set) (c .before .before .before .before .before .before .before .before .before .before .before .before .before .before .args .here) (c .before .before .before .before .before .before .before .before .before .before .before .before .before .before .args .loc) (sym (c .before .before .before .before .before .before .before .before .before .before .before .deepens .ensures) ∙ c .before .before .before .before .before .before .before .before .before .before .if1 .taken) in
-    let e = c .before .before .before .before .before .before .inner .ensures in
-    let en : c .before .before .before .before .before .before .inner .result .node ≡ c .before .before .before .before .before .before .before .before .before .before .before .before .before .before .args .here .node = ap (λ (x : Args). x .node) e in
-    let ed : c .before .before .before .before .before .before .inner .result .depth ≡ c .before .before .before .before .before .before .before .before .before .before .before .before .before .before .args .here .depth - 2 = ap (λ (x : Args). x .depth) e in
-    λ k h. ap (λ (x : Loc). with x (c .before .before .before .before .before .search-node .last .1 .0) (c .before .before .before .before .before .search-node .last .1 .1 .0)) (c .hinted .ensures)
-    ∙ deepen-yes (visitF k (c .before .before .before .before .before .before .before .before .before .before .before .before .before .before .args .tree .now) (c .before .before .before .before .before .before .before .before .before .before .before .before .before .before .args .set)) (c .before .before .before .before .before .before .before .before .before .before .before .before .before .before .args .tree .now) (c .before .before .before .before .before .before .before .before .before .before .before .before .before .before .args .set) (c .before .before .before .before .before .before .before .before .before .before .before .before .before .before .args .here) (c .before .before .before .before .before .before .before .before .before .before .before .before .before .before .args .loc) (c .before .before .before .before .before .before .before .before .before .before .before .before .before .before .args .words .now) (c .before .before .before .before .before .before .before .before .before .before .before .before .before .before .args .history .now) (sym (c .before .before .before .before .before .before .before .before .before .before .before .deepens .ensures) ∙ c .before .before .before .before .before .before .before .before .before .before .if1 .taken) _
-    (c .before .before .before .before .before .search-node .ensures k (omega (arith, h)) ∙ ap (visitF k (c .before .before .before .before .before .before .before .before .before .before .before .before .before .before .args .tree .now) (c .before .before .before .before .before .before .before .before .before .before .before .before .before .before .args .set) (c .before .before .before .before .before .before .before .before .before .before .before .before .before .before .args .loc .state) (c .before .before .before .before .before .before .before .before .before .before .before .before .before .before .args .words .now) (c .before .before .before .before .before .before .before .before .before .before .before .before .before .before .args .history .now)) e)
+    let s = c .before .before .before .before .before .before .before .before .before .before .before .before .before .before in
+    let set = s .args .set in
+    let here = s .args .here in
+    let loc = s .args .loc in
+    let tree = s .args .tree .now in
+    let words = s .args .words .now in
+    let history = s .args .history .now in
+    let deepens = c .before .before .before .before .before .before .before .before .before .before .before .deepens in
+    let if1 = c .before .before .before .before .before .before .before .before .before .before .if1 in
+    let inner = c .before .before .before .before .before .before .inner in
+    let search-node = c .before .before .before .before .before .search-node in
+    let d = deep-enough set here loc (sym (deepens .ensures) ∙ if1 .taken) in
+    let e = inner .ensures in
+    let en : inner .result .node ≡ here .node = ap (λ (x : Args). x .node) e in
+    let ed : inner .result .depth ≡ here .depth - 2 = ap (λ (x : Args). x .depth) e in
+    λ k h. ap (λ (x : Loc). with x (search-node .last .1 .0) (search-node .last .1 .1 .0)) (c .hinted .ensures)
+    ∙ deepen-yes (visitF k tree set) tree set here loc words history (sym (deepens .ensures) ∙ if1 .taken) _
+    (search-node .ensures k (omega (arith, h)) ∙ ap (visitF k tree set (loc .state) words history) e)
 
 deepen-returns-2 : (t : ℕ) → deepen-lts.Need-returns-2 (deepen-calls t) (deepen-at t) deepen.Post
-deepen-returns-2 t c = λ k h. deepen-no (visitF k (c .before .before .before .before .args .tree .now) (c .before .before .before .before .args .set)) (c .before .before .before .before .args .tree .now) (c .before .before .before .before .args .set) (c .before .before .before .before .args .here) (c .before .before .before .before .args .loc) (c .before .before .before .before .args .words .now) (c .before .before .before .before .args .history .now) (sym (c .before .deepens .ensures) ∙ c .if1 .left)
+deepen-returns-2 t c =
+    let s = c .before .before .before .before in
+    let tree = s .args .tree .now in
+    let set = s .args .set in
+    let here = s .args .here in
+    let loc = s .args .loc in
+    let words = s .args .words .now in
+    let history = s .args .history .now in
+    let deepens = c .before .deepens in
+    λ k h. deepen-no (visitF k tree set) tree set here loc words history (sym (deepens .ensures) ∙ c .if1 .left)
 
 reduced-null-requires : (t : ℕ) → reduced-lts.Need-null-requires (reduced-calls t) (reduced-at t) reduced.Post
 reduced-null-requires t c κs =
-    let i = c .before .before .before .before .before .pre .1 .1 .0 in
-    (i .side-most, (c .before .before .before .before .before .pre .1 .1 .1 .1, omega (arith, i .ply-most, level-low (c .before .before .before .before .before .args .set) (c .before .before .before .before .before .args .tree .now) (c .before .before .before .before .before .pre .1 .0 .accepted) (c .before .before .before .before .before .args .here .node))))
+    let s = c .before .before .before .before .before in
+    let set = s .args .set in
+    let tree = s .args .tree .now in
+    let here = s .args .here in
+    let i = s .pre .1 .1 .0 in
+    (i .side-most, (s .pre .1 .1 .1 .1, omega (arith, i .ply-most, level-low set tree (s .pre .1 .0 .accepted) (here .node))))
 
 reduced-search-node-requires : (t : ℕ) → reduced-lts.Need-search-node-requires (reduced-calls t) (reduced-at t) reduced.Post
 reduced-search-node-requires t c κs =
-    let i = c .before .before .before .before .before .before .pre .1 .1 .0 in
-    let g = c .before .before .before .before .before .before .pre .1 .1 .1 .0 in
+    let s = c .before .before .before .before .before .before in
+    let child = s .args .c in
+    let here = s .args .here in
+    let d = s .args .d in
+    let tree = s .args .tree .now in
+    let loc = s .args .loc in
+    let i = s .pre .1 .1 .0 in
+    let g = s .pre .1 .1 .1 .0 in
     let e = c .null .ensures in
-    let en : c .null .result .node ≡ c .before .before .before .before .before .before .args .c = ap (λ (x : Args). x .node) e in
-    let ed : c .null .result .depth ≡ c .before .before .before .before .before .before .args .here .depth - 1 - c .before .before .before .before .before .before .args .d = ap (λ (x : Args). x .depth) e in
-    (omega (arith, c .before .before .before .before .before .before .pre .0, g .above, g .in-tree, i .depth-most), (c .before .before .before .before .before .before .pre .1 .0, subst (Reach (c .before .before .before .before .before .before .args .tree .now)) (sym e) (to-null (c .before .before .before .before .before .before .args .tree .now) (c .before .before .before .before .before .before .args .here) (c .before .before .before .before .before .before .args .loc) (c .before .before .before .before .before .before .args .c) i g (c .before .before .before .before .before .before .args .d))))
+    let en : c .null .result .node ≡ child = ap (λ (x : Args). x .node) e in
+    let ed : c .null .result .depth ≡ here .depth - 1 - d = ap (λ (x : Args). x .depth) e in
+    (omega (arith, s .pre .0, g .above, g .in-tree, i .depth-most), (s .pre .1 .0, subst (Reach tree) (sym e) (to-null tree here loc child i g d)))
 
 reduced-again-requires : (t : ℕ) → reduced-lts.Need-again-requires (reduced-calls t) (reduced-at t) reduced.Post
 reduced-again-requires t c κs = tt
 
 reduced-null-requires-2 : (t : ℕ) → reduced-lts.Need-null-requires-2 (reduced-calls t) (reduced-at t) reduced.Post
 reduced-null-requires-2 t c κs =
-    let i = c .before .before .before .before .before .before .before .before .before .before .before .before .before .before .before .pre .1 .1 .0 in
-    (i .side-most, (i .depth-least, omega (arith, i .ply-most, level-low (c .before .before .before .before .before .before .before .before .before .before .before .before .before .before .before .args .set) (c .before .before .before .before .before .before .before .before .before .before .before .before .before .before .before .args .tree .now) (c .before .before .before .before .before .before .before .before .before .before .before .before .before .before .before .pre .1 .0 .accepted) (c .before .before .before .before .before .before .before .before .before .before .before .before .before .before .before .args .here .node))))
+    let s = c .before .before .before .before .before .before .before .before .before .before .before .before .before .before .before in
+    let set = s .args .set in
+    let tree = s .args .tree .now in
+    let here = s .args .here in
+    let i = s .pre .1 .1 .0 in
+    (i .side-most, (i .depth-least, omega (arith, i .ply-most, level-low set tree (s .pre .1 .0 .accepted) (here .node))))
 
 reduced-search-node-requires-2 : (t : ℕ) → reduced-lts.Need-search-node-requires-2 (reduced-calls t) (reduced-at t) reduced.Post
 reduced-search-node-requires-2 t c κs =
-    let i = c .before .before .before .before .before .before .before .before .before .before .before .before .before .before .before .before .pre .1 .1 .0 in
-    let g = c .before .before .before .before .before .before .before .before .before .before .before .before .before .before .before .before .pre .1 .1 .1 .0 in
+    let p = c .before .before .before .before .before .before .before .before .before in
+    let s = p .before .before .before .before .before .before .before in
+    let child = s .args .c in
+    let here = s .args .here in
+    let set = s .args .set in
+    let tree = s .args .tree .now in
+    let kept = p .search-node .kept in
+    let i = s .pre .1 .1 .0 in
+    let g = s .pre .1 .1 .1 .0 in
     let e = c .null2 .ensures in
-    let en : c .null2 .result .node ≡ c .before .before .before .before .before .before .before .before .before .before .before .before .before .before .before .before .args .c = ap (λ (x : Args). x .node) e in
-    let ed : c .null2 .result .depth ≡ c .before .before .before .before .before .before .before .before .before .before .before .before .before .before .before .before .args .here .depth - 1 - 0 = ap (λ (x : Args). x .depth) e in
-    (omega (arith, c .before .before .before .before .before .before .before .before .before .before .before .before .before .before .before .before .pre .0, g .above, g .in-tree, i .depth-most), (still-ready (c .before .before .before .before .before .before .before .before .before .before .before .before .before .before .before .before .args .set) (c .before .before .before .before .before .before .before .before .before .before .before .before .before .before .before .before .args .tree .now) _ _ _ _ (c .before .before .before .before .before .before .before .before .before .before .before .before .before .before .before .before .pre .1 .0) (c .before .before .before .before .before .before .before .before .before .search-node .kept .1 .0) (c .before .before .before .before .before .before .before .before .before .search-node .kept .1 .1 .0), subst (Reach (c .before .before .before .before .before .before .before .before .before .before .before .before .before .before .before .before .args .tree .now)) (sym e) (to-null (c .before .before .before .before .before .before .before .before .before .before .before .before .before .before .before .before .args .tree .now) (c .before .before .before .before .before .before .before .before .before .before .before .before .before .before .before .before .args .here) (c .before .before .before .before .before .before .before .before .before .before .before .before .before .before .before .before .args .loc) (c .before .before .before .before .before .before .before .before .before .before .before .before .before .before .before .before .args .c) i g 0)))
+    let en : c .null2 .result .node ≡ child = ap (λ (x : Args). x .node) e in
+    let ed : c .null2 .result .depth ≡ here .depth - 1 - 0 = ap (λ (x : Args). x .depth) e in
+    let reach = subst (Reach tree) (sym e) (to-null tree here (s .args .loc) child i g 0) in
+    (omega (arith, s .pre .0, g .above, g .in-tree, i .depth-most), (still-ready set tree _ _ _ _ (s .pre .1 .0) (kept .1 .0) (kept .1 .1 .0), reach))
 
 reduced-widened-requires : (t : ℕ) → reduced-lts.Need-widened-requires (reduced-calls t) (reduced-at t) reduced.Post
-reduced-widened-requires t c κs = (omega (arith, c .before .before .before .before .before .before .before .before .before .before .before .before .before .before .before .before .before .before .before .before .before .before .pre .0), (still-ready (c .before .before .before .before .before .before .before .before .before .before .before .before .before .before .before .before .before .before .before .before .before .before .args .set) (c .before .before .before .before .before .before .before .before .before .before .before .before .before .before .before .before .before .before .before .before .before .before .args .tree .now) _ _ _ _ (c .before .before .before .before .before .before .before .before .before .before .before .before .before .before .before .before .before .before .before .before .before .before .pre .1 .0) (c .before .before .before .before .before .search-node2 .kept .1 .0 ∙ c .before .before .before .before .before .before .before .before .before .before .before .before .before .before .before .search-node .kept .1 .0) (c .before .before .before .before .before .search-node2 .kept .1 .1 .0 ∙ c .before .before .before .before .before .before .before .before .before .before .before .before .before .before .before .search-node .kept .1 .1 .0), (c .before .before .before .before .before .before .before .before .before .before .before .before .before .before .before .before .before .before .before .before .before .before .pre .1 .1 .0, c .before .before .before .before .before .before .before .before .before .before .before .before .before .before .before .before .before .before .before .before .before .before .pre .1 .1 .1 .0)))
+reduced-widened-requires t c κs =
+    let q = c .before .before .before .before .before in
+    let p = q .before .before .before .before .before .before .before .before .before .before in
+    let s = p .before .before .before .before .before .before .before in
+    let first = p .search-node .kept in
+    let again = q .search-node2 .kept in
+    let words = again .1 .0 ∙ first .1 .0 in
+    let history = again .1 .1 .0 ∙ first .1 .1 .0 in
+    let set = s .args .set in
+    let tree = s .args .tree .now in
+    (omega (arith, s .pre .0), (still-ready set tree _ _ _ _ (s .pre .1 .0) words history, (s .pre .1 .1 .0, s .pre .1 .1 .1 .0)))
 
 reduced-same-length : (t : ℕ) → reduced-lts.Need-same-length (reduced-calls t) (reduced-at t) reduced.Post
-reduced-same-length t c = c .before .before .before .widened .kept .1 .0 ∙ c .before .before .before .before .before .before .before .before .before .search-node2 .kept .1 .0 ∙ c .before .before .before .before .before .before .before .before .before .before .before .before .before .before .before .before .before .before .before .search-node .kept .1 .0
+reduced-same-length t c =
+    let q = c .before .before .before .before .before .before .before .before .before in
+    let p = q .before .before .before .before .before .before .before .before .before .before in
+    c .before .before .before .widened .kept .1 .0 ∙ q .search-node2 .kept .1 .0 ∙ p .search-node .kept .1 .0
 
 reduced-same-length-2 : (t : ℕ) → reduced-lts.Need-same-length-2 (reduced-calls t) (reduced-at t) reduced.Post
-reduced-same-length-2 t c = c .before .before .before .widened .kept .1 .1 .0 ∙ c .before .before .before .before .before .before .before .before .before .search-node2 .kept .1 .1 .0 ∙ c .before .before .before .before .before .before .before .before .before .before .before .before .before .before .before .before .before .before .before .search-node .kept .1 .1 .0
+reduced-same-length-2 t c =
+    let q = c .before .before .before .before .before .before .before .before .before in
+    let p = q .before .before .before .before .before .before .before .before .before .before in
+    c .before .before .before .widened .kept .1 .1 .0 ∙ q .search-node2 .kept .1 .1 .0 ∙ p .search-node .kept .1 .1 .0
 
 reduced-returns : (t : ℕ) → reduced-lts.Need-returns (reduced-calls t) (reduced-at t) reduced.Post
 reduced-returns t c =
-    let i = c .before .before .before .before .before .before .before .before .before .before .before .before .before .before .before .before .before .before .before .before .before .before .before .before .before .before .pre .1 .1 .0 in
-    let g = c .before .before .before .before .before .before .before .before .before .before .before .before .before .before .before .before .before .before .before .before .before .before .before .before .before .before .pre .1 .1 .1 .0 in
-    let e = c .before .before .before .before .before .before .before .before .before .before .before .before .before .before .before .before .before .before .before .before .null .ensures in
-    let en : c .before .before .before .before .before .before .before .before .before .before .before .before .before .before .before .before .before .before .before .before .null .result .node ≡ c .before .before .before .before .before .before .before .before .before .before .before .before .before .before .before .before .before .before .before .before .before .before .before .before .before .before .args .c = ap (λ (x : Args). x .node) e in
-    let ed : c .before .before .before .before .before .before .before .before .before .before .before .before .before .before .before .before .before .before .before .before .null .result .depth ≡ c .before .before .before .before .before .before .before .before .before .before .before .before .before .before .before .before .before .before .before .before .before .before .before .before .before .before .args .here .depth - 1 - c .before .before .before .before .before .before .before .before .before .before .before .before .before .before .before .before .before .before .before .before .before .before .before .before .before .before .args .d = ap (λ (x : Args). x .depth) e in
-    let e2 = c .before .before .before .before .before .before .before .before .before .before .null2 .ensures in
-    let en2 : c .before .before .before .before .before .before .before .before .before .before .null2 .result .node ≡ c .before .before .before .before .before .before .before .before .before .before .before .before .before .before .before .before .before .before .before .before .before .before .before .before .before .before .args .c = ap (λ (x : Args). x .node) e2 in
-    let ed2 : c .before .before .before .before .before .before .before .before .before .before .null2 .result .depth ≡ c .before .before .before .before .before .before .before .before .before .before .before .before .before .before .before .before .before .before .before .before .before .before .before .before .before .before .args .here .depth - 1 - 0 = ap (λ (x : Args). x .depth) e2 in
+    let q = c .before .before .before .before .before .before .before .before .before in
+    let p = q .before .before .before .before .before .before .before .before .before .before in
+    let s = p .before .before .before .before .before .before .before in
+    let child = s .args .c in
+    let here = s .args .here in
+    let d = s .args .d in
+    let tree = s .args .tree .now in
+    let set = s .args .set in
+    let loc = s .args .loc in
+    let words = s .args .words .now in
+    let history = s .args .history .now in
+    let null = p .before .null in
+    let search-node = p .search-node in
+    let later = q .before .before .before .before .before in
+    let null2 = q .before .null2 in
+    let search-node2 = q .search-node2 in
+    let i = s .pre .1 .1 .0 in
+    let g = s .pre .1 .1 .1 .0 in
+    let e = null .ensures in
+    let en : null .result .node ≡ child = ap (λ (x : Args). x .node) e in
+    let ed : null .result .depth ≡ here .depth - 1 - d = ap (λ (x : Args). x .depth) e in
+    let e2 = null2 .ensures in
+    let en2 : null2 .result .node ≡ child = ap (λ (x : Args). x .node) e2 in
+    let ed2 : null2 .result .depth ≡ here .depth - 1 - 0 = ap (λ (x : Args). x .depth) e2 in
     λ k h. c .before .before .before .widened .ensures k h
-    ∙ reduced-again (visitF k (c .before .before .before .before .before .before .before .before .before .before .before .before .before .before .before .before .before .before .before .before .before .before .before .before .before .before .args .tree .now) (c .before .before .before .before .before .before .before .before .before .before .before .before .before .before .before .before .before .before .before .before .before .before .before .before .before .before .args .set)) (c .before .before .before .before .before .before .before .before .before .before .before .before .before .before .before .before .before .before .before .before .before .before .before .before .before .before .args .here) (c .before .before .before .before .before .before .before .before .before .before .before .before .before .before .before .before .before .before .before .before .before .before .before .before .before .before .args .loc) (c .before .before .before .before .before .before .before .before .before .before .before .before .before .before .before .before .before .before .before .before .before .before .before .before .before .before .args .c) (c .before .before .before .before .before .before .before .before .before .before .before .before .before .before .before .before .before .before .before .before .before .before .before .before .before .before .args .d) (c .before .before .before .before .before .before .before .before .before .before .before .before .before .before .before .before .before .before .before .before .before .before .before .before .before .before .args .words .now) (c .before .before .before .before .before .before .before .before .before .before .before .before .before .before .before .before .before .before .before .before .before .before .before .before .before .before .args .history .now) _
-    (c .before .before .before .before .before .before .before .before .before .before .before .before .before .before .before .before .before .before .before .search-node .ensures k (omega (arith, h, g .above, g .in-tree, i .depth-most)) ∙ ap (visitF k (c .before .before .before .before .before .before .before .before .before .before .before .before .before .before .before .before .before .before .before .before .before .before .before .before .before .before .args .tree .now) (c .before .before .before .before .before .before .before .before .before .before .before .before .before .before .before .before .before .before .before .before .before .before .before .before .before .before .args .set) (c .before .before .before .before .before .before .before .before .before .before .before .before .before .before .before .before .before .before .before .before .before .before .before .before .before .before .args .loc .state) (c .before .before .before .before .before .before .before .before .before .before .before .before .before .before .before .before .before .before .before .before .before .before .before .before .before .before .args .words .now) (c .before .before .before .before .before .before .before .before .before .before .before .before .before .before .before .before .before .before .before .before .before .before .before .before .before .before .args .history .now)) e) (sym (c .before .before .before .before .before .before .before .before .before .before .before .before .before .before .before .again .ensures) ∙ c .before .before .before .before .before .before .before .before .before .before .before .before .before .before .if1 .taken) _
-    (c .before .before .before .before .before .before .before .before .before .search-node2 .ensures k (omega (arith, h, g .above, g .in-tree, i .depth-most)) ∙ ap (visitF k (c .before .before .before .before .before .before .before .before .before .before .before .before .before .before .before .before .before .before .before .before .before .before .before .before .before .before .args .tree .now) (c .before .before .before .before .before .before .before .before .before .before .before .before .before .before .before .before .before .before .before .before .before .before .before .before .before .before .args .set) (c .before .before .before .before .before .before .before .before .before .before .before .before .before .before .before .before .before .before .before .search-node .result .state) (c .before .before .before .before .before .before .before .before .before .before .before .before .before .before .before .before .before .before .before .search-node .last .1 .0) (c .before .before .before .before .before .before .before .before .before .before .before .before .before .before .before .before .before .before .before .search-node .last .1 .1 .0)) e2)
+    ∙ reduced-again (visitF k tree set) here loc child d words history _
+    (search-node .ensures k (omega (arith, h, g .above, g .in-tree, i .depth-most)) ∙ ap (visitF k tree set (loc .state) words history) e)
+    (sym (later .before .again .ensures) ∙ later .if1 .taken) _
+    (search-node2 .ensures k (omega (arith, h, g .above, g .in-tree, i .depth-most))
+    ∙ ap (visitF k tree set (search-node .result .state) (search-node .last .1 .0) (search-node .last .1 .1 .0)) e2)
 
 reduced-widened-requires-2 : (t : ℕ) → reduced-lts.Need-widened-requires-2 (reduced-calls t) (reduced-at t) reduced.Post
-reduced-widened-requires-2 t c κs = (omega (arith, c .before .before .before .before .before .before .before .before .before .before .before .before .before .before .pre .0), (still-ready (c .before .before .before .before .before .before .before .before .before .before .before .before .before .before .args .set) (c .before .before .before .before .before .before .before .before .before .before .before .before .before .before .args .tree .now) _ _ _ _ (c .before .before .before .before .before .before .before .before .before .before .before .before .before .before .pre .1 .0) (c .before .before .before .before .before .before .before .search-node .kept .1 .0) (c .before .before .before .before .before .before .before .search-node .kept .1 .1 .0), (c .before .before .before .before .before .before .before .before .before .before .before .before .before .before .pre .1 .1 .0, c .before .before .before .before .before .before .before .before .before .before .before .before .before .before .pre .1 .1 .1 .0)))
+reduced-widened-requires-2 t c κs =
+    let p = c .before .before .before .before .before .before .before in
+    let s = p .before .before .before .before .before .before .before in
+    let kept = p .search-node .kept in
+    let set = s .args .set in
+    let tree = s .args .tree .now in
+    (omega (arith, s .pre .0), (still-ready set tree _ _ _ _ (s .pre .1 .0) (kept .1 .0) (kept .1 .1 .0), (s .pre .1 .1 .0, s .pre .1 .1 .1 .0)))
 
 reduced-same-length-3 : (t : ℕ) → reduced-lts.Need-same-length-3 (reduced-calls t) (reduced-at t) reduced.Post
-reduced-same-length-3 t c = c .before .before .before .widened2 .kept .1 .0 ∙ c .before .before .before .before .before .before .before .before .before .before .before .search-node .kept .1 .0
+reduced-same-length-3 t c =
+    let p = c .before .before .before .before .before .before .before .before .before .before .before in
+    c .before .before .before .widened2 .kept .1 .0 ∙ p .search-node .kept .1 .0
 
 reduced-same-length-4 : (t : ℕ) → reduced-lts.Need-same-length-4 (reduced-calls t) (reduced-at t) reduced.Post
-reduced-same-length-4 t c = c .before .before .before .widened2 .kept .1 .1 .0 ∙ c .before .before .before .before .before .before .before .before .before .before .before .search-node .kept .1 .1 .0
+reduced-same-length-4 t c =
+    let p = c .before .before .before .before .before .before .before .before .before .before .before in
+    c .before .before .before .widened2 .kept .1 .1 .0 ∙ p .search-node .kept .1 .1 .0
 
 reduced-returns-2 : (t : ℕ) → reduced-lts.Need-returns-2 (reduced-calls t) (reduced-at t) reduced.Post
 reduced-returns-2 t c =
-    let i = c .before .before .before .before .before .before .before .before .before .before .before .before .before .before .before .before .before .before .pre .1 .1 .0 in
-    let g = c .before .before .before .before .before .before .before .before .before .before .before .before .before .before .before .before .before .before .pre .1 .1 .1 .0 in
-    let e = c .before .before .before .before .before .before .before .before .before .before .before .before .null .ensures in
-    let en : c .before .before .before .before .before .before .before .before .before .before .before .before .null .result .node ≡ c .before .before .before .before .before .before .before .before .before .before .before .before .before .before .before .before .before .before .args .c = ap (λ (x : Args). x .node) e in
-    let ed : c .before .before .before .before .before .before .before .before .before .before .before .before .null .result .depth ≡ c .before .before .before .before .before .before .before .before .before .before .before .before .before .before .before .before .before .before .args .here .depth - 1 - c .before .before .before .before .before .before .before .before .before .before .before .before .before .before .before .before .before .before .args .d = ap (λ (x : Args). x .depth) e in
+    let p = c .before .before .before .before .before .before .before .before .before .before .before in
+    let s = p .before .before .before .before .before .before .before in
+    let child = s .args .c in
+    let here = s .args .here in
+    let d = s .args .d in
+    let tree = s .args .tree .now in
+    let set = s .args .set in
+    let loc = s .args .loc in
+    let words = s .args .words .now in
+    let history = s .args .history .now in
+    let null = p .before .null in
+    let search-node = p .search-node in
+    let later = c .before .before .before .before .before .before in
+    let i = s .pre .1 .1 .0 in
+    let g = s .pre .1 .1 .1 .0 in
+    let e = null .ensures in
+    let en : null .result .node ≡ child = ap (λ (x : Args). x .node) e in
+    let ed : null .result .depth ≡ here .depth - 1 - d = ap (λ (x : Args). x .depth) e in
     λ k h. c .before .before .before .widened2 .ensures k h
-    ∙ reduced-once (visitF k (c .before .before .before .before .before .before .before .before .before .before .before .before .before .before .before .before .before .before .args .tree .now) (c .before .before .before .before .before .before .before .before .before .before .before .before .before .before .before .before .before .before .args .set)) (c .before .before .before .before .before .before .before .before .before .before .before .before .before .before .before .before .before .before .args .here) (c .before .before .before .before .before .before .before .before .before .before .before .before .before .before .before .before .before .before .args .loc) (c .before .before .before .before .before .before .before .before .before .before .before .before .before .before .before .before .before .before .args .c) (c .before .before .before .before .before .before .before .before .before .before .before .before .before .before .before .before .before .before .args .d) (c .before .before .before .before .before .before .before .before .before .before .before .before .before .before .before .before .before .before .args .words .now) (c .before .before .before .before .before .before .before .before .before .before .before .before .before .before .before .before .before .before .args .history .now) _
-    (c .before .before .before .before .before .before .before .before .before .before .before .search-node .ensures k (omega (arith, h, g .above, g .in-tree, i .depth-most)) ∙ ap (visitF k (c .before .before .before .before .before .before .before .before .before .before .before .before .before .before .before .before .before .before .args .tree .now) (c .before .before .before .before .before .before .before .before .before .before .before .before .before .before .before .before .before .before .args .set) (c .before .before .before .before .before .before .before .before .before .before .before .before .before .before .before .before .before .before .args .loc .state) (c .before .before .before .before .before .before .before .before .before .before .before .before .before .before .before .before .before .before .args .words .now) (c .before .before .before .before .before .before .before .before .before .before .before .before .before .before .before .before .before .before .args .history .now)) e) (sym (c .before .before .before .before .before .before .before .again .ensures) ∙ c .before .before .before .before .before .before .if1 .left)
+    ∙ reduced-once (visitF k tree set) here loc child d words history _
+    (search-node .ensures k (omega (arith, h, g .above, g .in-tree, i .depth-most)) ∙ ap (visitF k tree set (loc .state) words history) e)
+    (sym (later .before .again .ensures) ∙ later .if1 .left)
 
 search-node-poll-requires : (t : ℕ) → search-node-lts.Need-poll-requires (search-node-calls t) (search-node-at t) search-node.Post
 search-node-poll-requires t c κs = tt
@@ -278,39 +464,71 @@ search-node-answer-requires : (t : ℕ) → search-node-lts.Need-answer-requires
 search-node-answer-requires t c κs = tt
 
 search-node-returns : (t : ℕ) → search-node-lts.Need-returns (search-node-calls t) (search-node-at t) search-node.Post
-search-node-returns t c = λ k h. ap (λ (x : Out). with x (c .before .before .before .before .before .args .words .now) (c .before .before .before .before .before .args .history .now)) (c .answer .ensures) ∙ visit-stop k _ (c .before .before .before .before .before .args .tree .now) (c .before .before .before .before .before .args .set) (c .before .before .before .before .before .args .st) (c .before .before .poll .result) (c .before .before .before .before .before .args .words .now) (c .before .before .before .before .before .args .history .now) (c .before .before .before .before .before .args .a) h (c .before .before .poll .ensures) (c .before .if1 .taken)
+search-node-returns t c =
+    let s = c .before .before .before .before .before in
+    let words = s .args .words .now in
+    let history = s .args .history .now in
+    let tree = s .args .tree .now in
+    let poll = c .before .before .poll in
+    λ k h. ap (λ (x : Out). with x words history) (c .answer .ensures)
+    ∙ visit-stop k _ tree (s .args .set) (s .args .st) (poll .result) words history (s .args .a) h (poll .ensures) (c .before .if1 .taken)
 
 search-node-extend-requires : (t : ℕ) → search-node-lts.Need-extend-requires (search-node-calls t) (search-node-at t) search-node.Post
-search-node-extend-requires t c κs = (blocked (c .before .before .before .before .args .set) (c .before .before .before .before .args .tree .now) (c .before .before .before .before .pre .1 .0 .accepted), (c .before .before .before .before .pre .1 .1 .in-tree, c .before .before .before .before .pre .1 .1 .depth-most))
+search-node-extend-requires t c κs =
+    let s = c .before .before .before .before in
+    (blocked (s .args .set) (s .args .tree .now) (s .pre .1 .0 .accepted), (s .pre .1 .1 .in-tree, s .pre .1 .1 .depth-most))
 
 search-node-rebuilt-requires : (t : ℕ) → search-node-lts.Need-rebuilt-requires (search-node-calls t) (search-node-at t) search-node.Post
 search-node-rebuilt-requires t c κs = tt
 
 search-node-capture-of-requires : (t : ℕ) → search-node-lts.Need-capture-of-requires (search-node-calls t) (search-node-at t) search-node.Post
 search-node-capture-of-requires t c κs =
-    let r = to-captures (c .before .before .before .before .before .before .before .before .args .tree .now) (c .before .before .before .before .before .before .before .before .args .a) (c .before .before .before .extend .result) (c .before .before .before .extend .ensures) (c .before .before .before .before .before .before .before .before .pre .1 .1) in
-    omega (arith, r .ply-least, level-low (c .before .before .before .before .before .before .before .before .args .set) (c .before .before .before .before .before .before .before .before .args .tree .now) (c .before .before .before .before .before .before .before .before .pre .1 .0 .accepted) (c .before .before .before .extend .result .node))
+    let s = c .before .before .before .before .before .before .before .before in
+    let extend = c .before .before .before .extend in
+    let r = to-captures (s .args .tree .now) (s .args .a) (extend .result) (extend .ensures) (s .pre .1 .1) in
+    omega (arith, r .ply-least, level-low (s .args .set) (s .args .tree .now) (s .pre .1 .0 .accepted) (extend .result .node))
 
 search-node-captures-requires : (t : ℕ) → search-node-lts.Need-captures-requires (search-node-calls t) (search-node-at t) search-node.Post
 search-node-captures-requires t c κs =
-    (c .before .before .before .before .before .before .before .before .before .pre .1 .0 .accepted, (subst (λ (x : Capture). captures.Reach (c .before .before .before .before .before .before .before .before .before .args .tree .now) (x .node) (x .below) (x .ply)) (sym (c .capture-of .ensures)) (to-captures (c .before .before .before .before .before .before .before .before .before .args .tree .now) (c .before .before .before .before .before .before .before .before .before .args .a) (c .before .before .before .before .extend .result) (c .before .before .before .before .extend .ensures) (c .before .before .before .before .before .before .before .before .before .pre .1 .1)), c .before .before .before .before .before .before .before .before .before .pre .1 .0 .words-least))
+    let s = c .before .before .before .before .before .before .before .before .before in
+    let tree = s .args .tree .now in
+    let extend = c .before .before .before .before .extend in
+    let reach = to-captures tree (s .args .a) (extend .result) (extend .ensures) (s .pre .1 .1) in
+    let asked = subst (λ (x : Capture). captures.Reach tree (x .node) (x .below) (x .ply)) (sym (c .capture-of .ensures)) reach in
+    (s .pre .1 .0 .accepted, (asked, s .pre .1 .0 .words-least))
 
 search-node-same-length : (t : ℕ) → search-node-lts.Need-same-length (search-node-calls t) (search-node-at t) search-node.Post
 search-node-same-length t c = c .before .before .captures .kept .1 .0
 
 search-node-returns-2 : (t : ℕ) → search-node-lts.Need-returns-2 (search-node-calls t) (search-node-at t) search-node.Post
 search-node-returns-2 t c =
-    let same = subst (λ (y : Args). Same y (c .before .before .before .before .before .before .before .before .before .before .before .before .args .a)) (sym (c .before .before .before .before .before .before .before .extend .ensures)) (extend-same (c .before .before .before .before .before .before .before .before .before .before .before .before .args .tree .now) (c .before .before .before .before .before .before .before .before .before .before .before .before .args .a)) in
-    let en : c .before .before .before .capture-of .result .node ≡ c .before .before .before .before .before .before .before .extend .result .node = ap (λ (x : Capture). x .node) (c .before .before .before .capture-of .ensures) in
-    λ k h. visit-captures k _ (c .before .before .before .before .before .before .before .before .before .before .before .before .args .tree .now) (c .before .before .before .before .before .before .before .before .before .before .before .before .args .set) (c .before .before .before .before .before .before .before .before .before .before .before .before .args .st) (c .before .before .before .before .before .before .before .before .before .poll .result) (c .before .before .before .before .before .before .before .before .before .before .before .before .args .words .now) (c .before .before .before .before .before .before .before .before .before .before .before .before .args .history .now) (c .before .before .before .before .before .before .before .before .before .before .before .before .args .a) h (c .before .before .before .before .before .before .before .before .before .poll .ensures) (c .before .before .before .before .before .before .before .before .if1 .left) (c .before .before .before .before .before .before .before .extend .result) (c .before .before .before .before .before .before .before .extend .ensures) (c .before .before .before .before .before .before .if2 .taken) _
-    (c .before .before .captures .ensures k (omega (arith, h, same .0)) ∙ ap₂ (λ (x : State) (y : Capture). capturesF k (c .before .before .before .before .before .before .before .before .before .before .before .before .args .set) (c .before .before .before .before .before .before .before .before .before .before .before .before .args .tree .now) x (c .before .before .before .before .before .before .before .before .before .before .before .before .args .words .now) y) (c .before .before .before .before .rebuilt .ensures) (c .before .before .before .capture-of .ensures))
+    let p = c .before .before .before .before .before .before .before in
+    let s = p .before .before .before .before .before in
+    let a = s .args .a in
+    let tree = s .args .tree .now in
+    let set = s .args .set in
+    let words = s .args .words .now in
+    let history = s .args .history .now in
+    let poll = p .before .before .poll in
+    let extend = p .extend in
+    let capture-of = c .before .before .before .capture-of in
+    let same = same-after tree a (extend .result) (extend .ensures) in
+    let en : capture-of .result .node ≡ extend .result .node = ap (λ (x : Capture). x .node) (capture-of .ensures) in
+    λ k h. visit-captures k _ tree set (s .args .st) (poll .result) words history a h (poll .ensures) (p .before .if1 .left)
+    (extend .result) (extend .ensures) (c .before .before .before .before .before .before .if2 .taken) _
+    (c .before .before .captures .ensures k (omega (arith, h, same .0))
+    ∙ ap₂ (λ (x : State) (y : Capture). capturesF k set tree x words y) (c .before .before .before .before .rebuilt .ensures) (capture-of .ensures))
 
 search-node-enter-requires : (t : ℕ) → search-node-lts.Need-enter-requires (search-node-calls t) (search-node-at t) search-node.Post
 search-node-enter-requires t c κs =
-    let same = subst (λ (y : Args). Same y (c .before .before .before .before .before .before .before .args .a)) (sym (c .before .before .extend .ensures)) (extend-same (c .before .before .before .before .before .before .before .args .tree .now) (c .before .before .before .before .before .before .before .args .a)) in
-    let most = subst (λ (y : Args). y .depth ≤ c .before .before .before .before .before .before .before .args .a .depth + 1) (sym (c .before .before .extend .ensures)) (extend-most (c .before .before .before .before .before .before .before .args .tree .now) (c .before .before .before .before .before .before .before .args .a)) in
-    let r = c .before .before .before .before .before .before .before .pre .1 .1 in
-    (blocked (c .before .before .before .before .before .before .before .args .set) (c .before .before .before .before .before .before .before .args .tree .now) (c .before .before .before .before .before .before .before .pre .1 .0 .accepted), (omega (arith, r .in-tree, same .0), (omega (arith, r .depth-most), c .before .before .before .before .before .before .before .pre .1 .0 .words-least)))
+    let p = c .before .before in
+    let s = p .before .before .before .before .before in
+    let tree = s .args .tree .now in
+    let same = same-after tree (s .args .a) (p .extend .result) (p .extend .ensures) in
+    let most = most-after tree (s .args .a) (p .extend .result) (p .extend .ensures) in
+    let r = s .pre .1 .1 in
+    let ready = s .pre .1 .0 in
+    (blocked (s .args .set) tree (ready .accepted), (omega (arith, r .in-tree, same .0), (omega (arith, r .depth-most, most), ready .words-least)))
 
 search-node-enum-known-e : (t : ℕ) → search-node-lts.Need-enum-known-e (search-node-calls t) (search-node-at t) search-node.Post
 search-node-enum-known-e t c = search needs
@@ -318,76 +536,145 @@ search-node-enum-known-e t c = search needs
 search-node-enum-known-e-2 : (t : ℕ) → search-node-lts.Need-enum-known-e-2 (search-node-calls t) (search-node-at t) search-node.Post
 search-node-enum-known-e-2 t c = search needs
 
+-- a visit that goes on to its moves: the place where the answer of `enter` is taken apart
+module _ (t : ℕ) (p : search-node-lts.After-e2 (search-node-calls t) (search-node-at t) search-node.Post) where
+  abbrev asked : search-node-lts.Start (search-node-calls t) (search-node-at t) search-node.Post
+  asked = p .before .before .before .before .before .before .before .before .before .before
+
+  abbrev longer : Args
+  longer = p .before .before .before .before .before .extend .result
+
+  longer-same : Same longer (asked .args .a)
+  longer-same = same-after (asked .args .tree .now) (asked .args .a) longer (p .before .before .before .before .before .extend .ensures)
+
+  longer-most : longer .depth ≤ asked .args .a .depth + 1
+  longer-most = most-after (asked .args .tree .now) (asked .args .a) longer (p .before .before .before .before .before .extend .ensures)
+
+  -- its moves are made at the node, the side, the depth and the ply that it was asked for
+  stays : Stays longer (p .e2 .given .0 .0)
+  stays =
+      enter-stays (asked .args .set) (asked .args .tree .now) (asked .args .words .now)
+      (p .before .before .before .before .before .before .before .poll .result) longer _ _
+      (sym (p .e2 .given .1) ∙ p .before .before .enter .ensures)
+
+  here-inside : Inside (asked .args .tree .now) (p .e2 .given .0 .0)
+  here-inside =
+      inside (asked .args .tree .now) (asked .args .a) longer _ (p .before .before .before .before .before .extend .ensures)
+      (asked .pre .1 .1) (p .before .before .before .before .if2 .left) stays
+
 search-node-deepen-requires : (t : ℕ) → search-node-lts.Need-deepen-requires (search-node-calls t) (search-node-at t) search-node.Post
 search-node-deepen-requires t c κs =
-    let most = subst (λ (y : Args). y .depth ≤ c .before .before .before .before .before .before .before .before .before .before .before .before .before .args .a .depth + 1) (sym (c .before .before .before .before .before .before .before .before .extend .ensures)) (extend-most (c .before .before .before .before .before .before .before .before .before .before .before .before .before .args .tree .now) (c .before .before .before .before .before .before .before .before .before .before .before .before .before .args .a)) in
-    let same = subst (λ (y : Args). Same y (c .before .before .before .before .before .before .before .before .before .before .before .before .before .args .a)) (sym (c .before .before .before .before .before .before .before .before .extend .ensures)) (extend-same (c .before .before .before .before .before .before .before .before .before .before .before .before .before .args .tree .now) (c .before .before .before .before .before .before .before .before .before .before .before .before .before .args .a)) in
-    let g = enter-stays (c .before .before .before .before .before .before .before .before .before .before .before .before .before .args .set) (c .before .before .before .before .before .before .before .before .before .before .before .before .before .args .tree .now) (c .before .before .before .before .before .before .before .before .before .before .before .before .before .args .words .now) (c .before .before .before .before .before .before .before .before .before .before .poll .result) (c .before .before .before .before .before .before .before .before .extend .result) (c .before .before .before .e2 .given .0 .0) (c .before .before .before .e2 .given .0 .1 .0) (sym (c .before .before .before .e2 .given .1) ∙ c .before .before .before .before .before .enter .ensures) in
-    let i = inside (c .before .before .before .before .before .before .before .before .before .before .before .before .before .args .tree .now) (c .before .before .before .before .before .before .before .before .before .before .before .before .before .args .a) (c .before .before .before .before .before .before .before .before .extend .result) (c .before .before .before .e2 .given .0 .0) (c .before .before .before .before .before .before .before .before .extend .ensures) (c .before .before .before .before .before .before .before .before .before .before .before .before .before .pre .1 .1) (c .before .before .before .before .before .before .before .if2 .left) g in
-    (omega (arith, c .before .before .before .before .before .before .before .before .before .before .before .before .before .pre .0, g .0, same .0, g .1 .1 .0), (c .before .before .before .before .before .before .before .before .before .before .before .before .before .pre .1 .0, i))
+    let p = c .before .before .before in
+    let s = asked t p in
+    let g = stays t p in
+    let same = longer-same t p in
+    (omega (arith, s .pre .0, g .0, same .0, g .1 .1 .0, longer-most t p), (s .pre .1 .0, here-inside t p))
 
 search-node-walk-requires : (t : ℕ) → search-node-lts.Need-walk-requires (search-node-calls t) (search-node-at t) search-node.Post
 search-node-walk-requires t c κs =
-    let most = subst (λ (y : Args). y .depth ≤ c .before .before .before .before .before .before .before .before .before .before .before .before .before .before .before .before .before .before .before .args .a .depth + 1) (sym (c .before .before .before .before .before .before .before .before .before .before .before .before .before .before .extend .ensures)) (extend-most (c .before .before .before .before .before .before .before .before .before .before .before .before .before .before .before .before .before .before .before .args .tree .now) (c .before .before .before .before .before .before .before .before .before .before .before .before .before .before .before .before .before .before .before .args .a)) in
-    let same = subst (λ (y : Args). Same y (c .before .before .before .before .before .before .before .before .before .before .before .before .before .before .before .before .before .before .before .args .a)) (sym (c .before .before .before .before .before .before .before .before .before .before .before .before .before .before .extend .ensures)) (extend-same (c .before .before .before .before .before .before .before .before .before .before .before .before .before .before .before .before .before .before .before .args .tree .now) (c .before .before .before .before .before .before .before .before .before .before .before .before .before .before .before .before .before .before .before .args .a)) in
-    let g = enter-stays (c .before .before .before .before .before .before .before .before .before .before .before .before .before .before .before .before .before .before .before .args .set) (c .before .before .before .before .before .before .before .before .before .before .before .before .before .before .before .before .before .before .before .args .tree .now) (c .before .before .before .before .before .before .before .before .before .before .before .before .before .before .before .before .before .before .before .args .words .now) (c .before .before .before .before .before .before .before .before .before .before .before .before .before .before .before .before .poll .result) (c .before .before .before .before .before .before .before .before .before .before .before .before .before .before .extend .result) (c .before .before .before .before .before .before .before .before .before .e2 .given .0 .0) (c .before .before .before .before .before .before .before .before .before .e2 .given .0 .1 .0) (sym (c .before .before .before .before .before .before .before .before .before .e2 .given .1) ∙ c .before .before .before .before .before .before .before .before .before .before .before .enter .ensures) in
-    let i = inside (c .before .before .before .before .before .before .before .before .before .before .before .before .before .before .before .before .before .before .before .args .tree .now) (c .before .before .before .before .before .before .before .before .before .before .before .before .before .before .before .before .before .before .before .args .a) (c .before .before .before .before .before .before .before .before .before .before .before .before .before .before .extend .result) (c .before .before .before .before .before .before .before .before .before .e2 .given .0 .0) (c .before .before .before .before .before .before .before .before .before .before .before .before .before .before .extend .ensures) (c .before .before .before .before .before .before .before .before .before .before .before .before .before .before .before .before .before .before .before .pre .1 .1) (c .before .before .before .before .before .before .before .before .before .before .before .before .before .if2 .left) g in
-    (omega (arith, c .before .before .before .before .before .before .before .before .before .before .before .before .before .before .before .before .before .before .before .pre .0, g .0, same .0), (still-ready (c .before .before .before .before .before .before .before .before .before .before .before .before .before .before .before .before .before .before .before .args .set) (c .before .before .before .before .before .before .before .before .before .before .before .before .before .before .before .before .before .before .before .args .tree .now) _ _ _ _ (c .before .before .before .before .before .before .before .before .before .before .before .before .before .before .before .before .before .before .before .pre .1 .0) (c .before .before .before .before .before .deepen .kept .1 .0) (c .before .before .before .before .before .deepen .kept .1 .1 .0), i))
+    let p = c .before .before .before .before .before .before .before .before .before in
+    let s = asked t p in
+    let kept = c .before .before .before .before .before .deepen .kept in
+    let g = stays t p in
+    let same = longer-same t p in
+    let set = s .args .set in
+    let tree = s .args .tree .now in
+    (omega (arith, s .pre .0, g .0, same .0), (still-ready set tree _ _ _ _ (s .pre .1 .0) (kept .1 .0) (kept .1 .1 .0), here-inside t p))
 
 search-node-finish-requires : (t : ℕ) → search-node-lts.Need-finish-requires (search-node-calls t) (search-node-at t) search-node.Post
 search-node-finish-requires t c κs =
-    let most = subst (λ (y : Args). y .depth ≤ c .before .before .before .before .before .before .before .before .before .before .before .before .before .before .before .before .before .before .before .before .before .before .before .before .args .a .depth + 1) (sym (c .before .before .before .before .before .before .before .before .before .before .before .before .before .before .before .before .before .before .before .extend .ensures)) (extend-most (c .before .before .before .before .before .before .before .before .before .before .before .before .before .before .before .before .before .before .before .before .before .before .before .before .args .tree .now) (c .before .before .before .before .before .before .before .before .before .before .before .before .before .before .before .before .before .before .before .before .before .before .before .before .args .a)) in
-    let same = subst (λ (y : Args). Same y (c .before .before .before .before .before .before .before .before .before .before .before .before .before .before .before .before .before .before .before .before .before .before .before .before .args .a)) (sym (c .before .before .before .before .before .before .before .before .before .before .before .before .before .before .before .before .before .before .before .extend .ensures)) (extend-same (c .before .before .before .before .before .before .before .before .before .before .before .before .before .before .before .before .before .before .before .before .before .before .before .before .args .tree .now) (c .before .before .before .before .before .before .before .before .before .before .before .before .before .before .before .before .before .before .before .before .before .before .before .before .args .a)) in
-    let g = enter-stays (c .before .before .before .before .before .before .before .before .before .before .before .before .before .before .before .before .before .before .before .before .before .before .before .before .args .set) (c .before .before .before .before .before .before .before .before .before .before .before .before .before .before .before .before .before .before .before .before .before .before .before .before .args .tree .now) (c .before .before .before .before .before .before .before .before .before .before .before .before .before .before .before .before .before .before .before .before .before .before .before .before .args .words .now) (c .before .before .before .before .before .before .before .before .before .before .before .before .before .before .before .before .before .before .before .before .before .poll .result) (c .before .before .before .before .before .before .before .before .before .before .before .before .before .before .before .before .before .before .before .extend .result) (c .before .before .before .before .before .before .before .before .before .before .before .before .before .before .e2 .given .0 .0) (c .before .before .before .before .before .before .before .before .before .before .before .before .before .before .e2 .given .0 .1 .0) (sym (c .before .before .before .before .before .before .before .before .before .before .before .before .before .before .e2 .given .1) ∙ c .before .before .before .before .before .before .before .before .before .before .before .before .before .before .before .before .enter .ensures) in
-    let i = inside (c .before .before .before .before .before .before .before .before .before .before .before .before .before .before .before .before .before .before .before .before .before .before .before .before .args .tree .now) (c .before .before .before .before .before .before .before .before .before .before .before .before .before .before .before .before .before .before .before .before .before .before .before .before .args .a) (c .before .before .before .before .before .before .before .before .before .before .before .before .before .before .before .before .before .before .before .extend .result) (c .before .before .before .before .before .before .before .before .before .before .before .before .before .before .e2 .given .0 .0) (c .before .before .before .before .before .before .before .before .before .before .before .before .before .before .before .before .before .before .before .extend .ensures) (c .before .before .before .before .before .before .before .before .before .before .before .before .before .before .before .before .before .before .before .before .before .before .before .before .pre .1 .1) (c .before .before .before .before .before .before .before .before .before .before .before .before .before .before .before .before .before .before .if2 .left) g in
-    let r = c .before .before .before .before .before .before .before .before .before .before .before .before .before .before .before .before .before .before .before .before .before .before .before .before .pre .1 .0 in
-    (blocked (c .before .before .before .before .before .before .before .before .before .before .before .before .before .before .before .before .before .before .before .before .before .before .before .before .args .set) (c .before .before .before .before .before .before .before .before .before .before .before .before .before .before .before .before .before .before .before .before .before .before .before .before .args .tree .now) (r .accepted), (i .in-tree, (omega (arith, c .before .before .before .before .walk .kept .1 .0, c .before .before .before .before .before .before .before .before .before .before .deepen .kept .1 .0, r .words-least), (i .depth-most, omega (arith, i .ply-most, level-low (c .before .before .before .before .before .before .before .before .before .before .before .before .before .before .before .before .before .before .before .before .before .before .before .before .args .set) (c .before .before .before .before .before .before .before .before .before .before .before .before .before .before .before .before .before .before .before .before .before .before .before .before .args .tree .now) (r .accepted) (c .before .before .before .before .before .before .before .before .before .before .before .before .before .before .e2 .given .0 .0 .node))))))
+    let p = c .before .before .before .before .before .before .before .before .before .before .before .before .before .before in
+    let s = asked t p in
+    let set = s .args .set in
+    let tree = s .args .tree .now in
+    let r = s .pre .1 .0 in
+    let i = here-inside t p in
+    let low = level-low set tree (r .accepted) (p .e2 .given .0 .0 .node) in
+    let kept = c .before .before .before .before .before .before .before .before .before .before .deepen .kept in
+    let kept2 = c .before .before .before .before .walk .kept in
+    (blocked set tree (r .accepted), (i .in-tree, (omega (arith, kept .1 .0, kept2 .1 .0, r .words-least), (i .depth-most, omega (arith, i .ply-most, low)))))
 
 search-node-same-length-2 : (t : ℕ) → search-node-lts.Need-same-length-2 (search-node-calls t) (search-node-at t) search-node.Post
 search-node-same-length-2 t c = refl
 
 search-node-returns-3 : (t : ℕ) → search-node-lts.Need-returns-3 (search-node-calls t) (search-node-at t) search-node.Post
-search-node-returns-3 t c = λ k h. visit-answer k _ (c .before .before .before .before .before .before .before .before .before .before .before .args .tree .now) (c .before .before .before .before .before .before .before .before .before .before .before .args .set) (c .before .before .before .before .before .before .before .before .before .before .before .args .st) (c .before .before .before .before .before .before .before .before .poll .result) (c .before .before .before .before .before .before .before .before .before .before .before .args .words .now) (c .before .before .before .before .before .before .before .before .before .before .before .args .history .now) (c .before .before .before .before .before .before .before .before .before .before .before .args .a) h (c .before .before .before .before .before .before .before .before .poll .ensures) (c .before .before .before .before .before .before .before .if1 .left) (c .before .before .before .before .before .before .extend .result) (c .before .before .before .before .before .before .extend .ensures) (c .before .before .before .before .before .if2 .left) _ (c .before .before .before .enter .ensures) _ (c .before .e .given .1)
+search-node-returns-3 t c =
+    let p = c .before .before .before .before .before .before in
+    let s = p .before .before .before .before .before in
+    let poll = p .before .before .poll in
+    λ k h. visit-answer k _ (s .args .tree .now) (s .args .set) (s .args .st) (poll .result) (s .args .words .now) (s .args .history .now) (s .args .a)
+    h (poll .ensures) (p .before .if1 .left) (p .extend .result) (p .extend .ensures) (c .before .before .before .before .before .if2 .left) _
+    (c .before .before .before .enter .ensures) _ (c .before .e .given .1)
 
 search-node-same-length-3 : (t : ℕ) → search-node-lts.Need-same-length-3 (search-node-calls t) (search-node-at t) search-node.Post
-search-node-same-length-3 t c = c .before .before .finish .kept .1 .0 ∙ c .before .before .before .before .before .before .before .walk .kept .1 .0 ∙ c .before .before .before .before .before .before .before .before .before .before .before .before .before .deepen .kept .1 .0
+search-node-same-length-3 t c =
+    let deepen = c .before .before .before .before .before .before .before .before .before .before .before .before .before .deepen in
+    let walk = c .before .before .before .before .before .before .before .walk in
+    let finish = c .before .before .finish in
+    finish .kept .1 .0 ∙ walk .kept .1 .0 ∙ deepen .kept .1 .0
 
 search-node-same-length-4 : (t : ℕ) → search-node-lts.Need-same-length-4 (search-node-calls t) (search-node-at t) search-node.Post
-search-node-same-length-4 t c = c .before .before .before .before .before .before .before .walk .kept .1 .1 .0 ∙ c .before .before .before .before .before .before .before .before .before .before .before .before .before .deepen .kept .1 .1 .0
+search-node-same-length-4 t c =
+    let deepen = c .before .before .before .before .before .before .before .before .before .before .before .before .before .deepen in
+    let walk = c .before .before .before .before .before .before .before .walk in
+    walk .kept .1 .1 .0 ∙ deepen .kept .1 .1 .0
 
 search-node-returns-4 : (t : ℕ) → search-node-lts.Need-returns-4 (search-node-calls t) (search-node-at t) search-node.Post
 search-node-returns-4 t c =
-    let most = subst (λ (y : Args). y .depth ≤ c .before .before .before .before .before .before .before .before .before .before .before .before .before .before .before .before .before .before .before .before .before .before .before .before .before .before .before .args .a .depth + 1) (sym (c .before .before .before .before .before .before .before .before .before .before .before .before .before .before .before .before .before .before .before .before .before .before .extend .ensures)) (extend-most (c .before .before .before .before .before .before .before .before .before .before .before .before .before .before .before .before .before .before .before .before .before .before .before .before .before .before .before .args .tree .now) (c .before .before .before .before .before .before .before .before .before .before .before .before .before .before .before .before .before .before .before .before .before .before .before .before .before .before .before .args .a)) in
-    let same = subst (λ (y : Args). Same y (c .before .before .before .before .before .before .before .before .before .before .before .before .before .before .before .before .before .before .before .before .before .before .before .before .before .before .before .args .a)) (sym (c .before .before .before .before .before .before .before .before .before .before .before .before .before .before .before .before .before .before .before .before .before .before .extend .ensures)) (extend-same (c .before .before .before .before .before .before .before .before .before .before .before .before .before .before .before .before .before .before .before .before .before .before .before .before .before .before .before .args .tree .now) (c .before .before .before .before .before .before .before .before .before .before .before .before .before .before .before .before .before .before .before .before .before .before .before .before .before .before .before .args .a)) in
-    let g = enter-stays (c .before .before .before .before .before .before .before .before .before .before .before .before .before .before .before .before .before .before .before .before .before .before .before .before .before .before .before .args .set) (c .before .before .before .before .before .before .before .before .before .before .before .before .before .before .before .before .before .before .before .before .before .before .before .before .before .before .before .args .tree .now) (c .before .before .before .before .before .before .before .before .before .before .before .before .before .before .before .before .before .before .before .before .before .before .before .before .before .before .before .args .words .now) (c .before .before .before .before .before .before .before .before .before .before .before .before .before .before .before .before .before .before .before .before .before .before .before .before .poll .result) (c .before .before .before .before .before .before .before .before .before .before .before .before .before .before .before .before .before .before .before .before .before .before .extend .result) (c .before .before .before .before .before .before .before .before .before .before .before .before .before .before .before .before .before .e2 .given .0 .0) (c .before .before .before .before .before .before .before .before .before .before .before .before .before .before .before .before .before .e2 .given .0 .1 .0) (sym (c .before .before .before .before .before .before .before .before .before .before .before .before .before .before .before .before .before .e2 .given .1) ∙ c .before .before .before .before .before .before .before .before .before .before .before .before .before .before .before .before .before .before .before .enter .ensures) in
-    let i = inside (c .before .before .before .before .before .before .before .before .before .before .before .before .before .before .before .before .before .before .before .before .before .before .before .before .before .before .before .args .tree .now) (c .before .before .before .before .before .before .before .before .before .before .before .before .before .before .before .before .before .before .before .before .before .before .before .before .before .before .before .args .a) (c .before .before .before .before .before .before .before .before .before .before .before .before .before .before .before .before .before .before .before .before .before .before .extend .result) (c .before .before .before .before .before .before .before .before .before .before .before .before .before .before .before .before .before .e2 .given .0 .0) (c .before .before .before .before .before .before .before .before .before .before .before .before .before .before .before .before .before .before .before .before .before .before .extend .ensures) (c .before .before .before .before .before .before .before .before .before .before .before .before .before .before .before .before .before .before .before .before .before .before .before .before .before .before .before .pre .1 .1) (c .before .before .before .before .before .before .before .before .before .before .before .before .before .before .before .before .before .before .before .before .before .if2 .left) g in
-    λ k h. ap (λ x. beside x (c .before .before .before .before .before .before .before .walk .last .1 .1 .0)) (c .before .before .finish .ensures)
-    ∙ visit-moves k _ (c .before .before .before .before .before .before .before .before .before .before .before .before .before .before .before .before .before .before .before .before .before .before .before .before .before .before .before .args .tree .now) (c .before .before .before .before .before .before .before .before .before .before .before .before .before .before .before .before .before .before .before .before .before .before .before .before .before .before .before .args .set) (c .before .before .before .before .before .before .before .before .before .before .before .before .before .before .before .before .before .before .before .before .before .before .before .before .before .before .before .args .st) (c .before .before .before .before .before .before .before .before .before .before .before .before .before .before .before .before .before .before .before .before .before .before .before .before .poll .result) (c .before .before .before .before .before .before .before .before .before .before .before .before .before .before .before .before .before .before .before .before .before .before .before .before .before .before .before .args .words .now) (c .before .before .before .before .before .before .before .before .before .before .before .before .before .before .before .before .before .before .before .before .before .before .before .before .before .before .before .args .history .now) (c .before .before .before .before .before .before .before .before .before .before .before .before .before .before .before .before .before .before .before .before .before .before .before .before .before .before .before .args .a) h (c .before .before .before .before .before .before .before .before .before .before .before .before .before .before .before .before .before .before .before .before .before .before .before .before .poll .ensures) (c .before .before .before .before .before .before .before .before .before .before .before .before .before .before .before .before .before .before .before .before .before .before .before .if1 .left) (c .before .before .before .before .before .before .before .before .before .before .before .before .before .before .before .before .before .before .before .before .before .before .extend .result) (c .before .before .before .before .before .before .before .before .before .before .before .before .before .before .before .before .before .before .before .before .before .before .extend .ensures) (c .before .before .before .before .before .before .before .before .before .before .before .before .before .before .before .before .before .before .before .before .before .if2 .left) _ (c .before .before .before .before .before .before .before .before .before .before .before .before .before .before .before .before .before .before .before .enter .ensures) _ _ (c .before .before .before .before .before .before .before .before .before .before .before .before .before .before .before .before .before .e2 .given .1)
-    (with (c .before .before .before .before .before .before .before .before .before .before .before .before .before .deepen .result) (c .before .before .before .before .before .before .before .before .before .before .before .before .before .deepen .last .1 .0) (c .before .before .before .before .before .before .before .before .before .before .before .before .before .deepen .last .1 .1 .0)) (c .before .before .before .before .before .before .before .before .before .before .before .before .before .deepen .ensures (k - 1) (omega (arith, h, g .0, same .0, g .1 .1 .0)))
-    (with (c .before .before .before .before .before .before .before .walk .result) (c .before .before .before .before .before .before .before .walk .last .1 .0) (c .before .before .before .before .before .before .before .walk .last .1 .1 .0)) (c .before .before .before .before .before .before .before .walk .ensures (k - 1) (omega (arith, h, g .0, same .0)))
+    let d = c .before .before .before .before .before .before .before .before .before .before .before .before .before in
+    let p = d .before .before .before .before in
+    let s = asked t p in
+    let poll = p .before .before .before .before .before .before .before .poll in
+    let deepen = d .deepen in
+    let walk = c .before .before .before .before .before .before .before .walk in
+    let g = stays t p in
+    let same = longer-same t p in
+    let most = longer-most t p in
+    λ k h. ap (λ x. beside x (walk .last .1 .1 .0)) (c .before .before .finish .ensures)
+    ∙ visit-moves k _ (s .args .tree .now) (s .args .set) (s .args .st) (poll .result) (s .args .words .now) (s .args .history .now) (s .args .a)
+    h (poll .ensures) (p .before .before .before .before .before .before .if1 .left) (longer t p) (p .before .before .before .before .before .extend .ensures)
+    (p .before .before .before .before .if2 .left) _ (p .before .before .enter .ensures) _ _ (p .e2 .given .1)
+    (with (deepen .result) (deepen .last .1 .0) (deepen .last .1 .1 .0)) (deepen .ensures (k - 1) (omega (arith, h, g .0, same .0, g .1 .1 .0, most)))
+    (with (walk .result) (walk .last .1 .0) (walk .last .1 .1 .0)) (walk .ensures (k - 1) (omega (arith, h, g .0, same .0)))
 
 turn-counted-requires : (t : ℕ) → turn-lts.Need-counted-requires (turn-calls t) (turn-at t) turn.Post
 turn-counted-requires t c κs = tt
 
 turn-move-to-requires : (t : ℕ) → turn-lts.Need-move-to-requires (turn-calls t) (turn-at t) turn.Post
-turn-move-to-requires t c κs = record-in (c .before .before .before .before .args .tree .now) (blocked (c .before .before .before .before .args .set) (c .before .before .before .before .args .tree .now) (c .before .before .before .before .pre .1 .0 .accepted)) (c .before .before .before .before .args .c) (c .before .before .before .before .pre .1 .1 .1 .0 .in-tree)
+turn-move-to-requires t c κs =
+    let s = c .before .before .before .before in
+    let tree = s .args .tree .now in
+    let set = s .args .set in
+    let child = s .args .c in
+    record-in tree (blocked set tree (s .pre .1 .0 .accepted)) child (s .pre .1 .1 .1 .0 .in-tree)
 
 turn-full-requires : (t : ℕ) → turn-lts.Need-full-requires (turn-calls t) (turn-at t) turn.Post
 turn-full-requires t c κs =
-    let i = c .before .before .before .before .before .before .before .before .pre .1 .1 .0 in
-    (i .side-most, (i .depth-least, omega (arith, i .ply-most, level-low (c .before .before .before .before .before .before .before .before .args .set) (c .before .before .before .before .before .before .before .before .args .tree .now) (c .before .before .before .before .before .before .before .before .pre .1 .0 .accepted) (c .before .before .before .before .before .before .before .before .args .here .node))))
+    let s = c .before .before .before .before .before .before .before .before in
+    let set = s .args .set in
+    let tree = s .args .tree .now in
+    let here = s .args .here in
+    let i = s .pre .1 .1 .0 in
+    (i .side-most, (i .depth-least, omega (arith, i .ply-most, level-low set tree (s .pre .1 .0 .accepted) (here .node))))
 
 turn-search-node-requires : (t : ℕ) → turn-lts.Need-search-node-requires (turn-calls t) (turn-at t) turn.Post
 turn-search-node-requires t c κs =
-    let i = c .before .before .before .before .before .before .before .before .before .pre .1 .1 .0 in
-    let g = c .before .before .before .before .before .before .before .before .before .pre .1 .1 .1 .0 in
+    let s = c .before .before .before .before .before .before .before .before .before in
+    let child = s .args .c in
+    let here = s .args .here in
+    let tree = s .args .tree .now in
+    let counted = c .before .before .before .before .before .before .counted in
+    let i = s .pre .1 .1 .0 in
+    let g = s .pre .1 .1 .1 .0 in
     let e = c .full .ensures in
-    let en : c .full .result .node ≡ c .before .before .before .before .before .before .before .before .before .args .c = ap (λ (x : Args). x .node) e in
-    let ed : c .full .result .depth ≡ c .before .before .before .before .before .before .before .before .before .args .here .depth - 1 = ap (λ (x : Args). x .depth) e in
-    (omega (arith, c .before .before .before .before .before .before .before .before .before .pre .0, g .above, g .in-tree, i .depth-most), (c .before .before .before .before .before .before .before .before .before .pre .1 .0, subst (Reach (c .before .before .before .before .before .before .before .before .before .args .tree .now)) (sym e) (to-full (c .before .before .before .before .before .before .before .before .before .args .tree .now) (c .before .before .before .before .before .before .before .before .before .args .here) (c .before .before .before .before .before .before .counted .result) (c .before .before .before .before .before .before .before .before .before .args .c) i g)))
+    let en : c .full .result .node ≡ child = ap (λ (x : Args). x .node) e in
+    let ed : c .full .result .depth ≡ here .depth - 1 = ap (λ (x : Args). x .depth) e in
+    (omega (arith, s .pre .0, g .above, g .in-tree, i .depth-most), (s .pre .1 .0, subst (Reach tree) (sym e) (to-full tree here (counted .result) child i g)))
 
 turn-first-requires : (t : ℕ) → turn-lts.Need-first-requires (turn-calls t) (turn-at t) turn.Post
-turn-first-requires t c κs = (blocked (c .before .before .before .before .before .before .before .before .before .before .before .before .before .args .set) (c .before .before .before .before .before .before .before .before .before .before .before .before .before .args .tree .now) (c .before .before .before .before .before .before .before .before .before .before .before .before .before .pre .1 .0 .accepted), c .before .before .before .before .before .before .before .before .before .before .before .before .before .pre .1 .1 .1 .0 .in-tree)
+turn-first-requires t c κs =
+    let s = c .before .before .before .before .before .before .before .before .before .before .before .before .before in
+    (blocked (s .args .set) (s .args .tree .now) (s .pre .1 .0 .accepted), s .pre .1 .1 .1 .0 .in-tree)
 
 turn-judge-requires : (t : ℕ) → turn-lts.Need-judge-requires (turn-calls t) (turn-at t) turn.Post
 turn-judge-requires t c κs = tt
@@ -400,33 +687,79 @@ turn-same-length-2 t c = c .before .before .before .before .before .search-node 
 
 turn-returns : (t : ℕ) → turn-lts.Need-returns (turn-calls t) (turn-at t) turn.Post
 turn-returns t c =
-    let i = c .before .before .before .before .before .before .before .before .before .before .before .before .before .before .before .pre .1 .1 .0 in
-    let g = c .before .before .before .before .before .before .before .before .before .before .before .before .before .before .before .pre .1 .1 .1 .0 in
-    let e = c .before .before .before .before .before .before .full .ensures in
-    let en : c .before .before .before .before .before .before .full .result .node ≡ c .before .before .before .before .before .before .before .before .before .before .before .before .before .before .before .args .c = ap (λ (x : Args). x .node) e in
-    let ed : c .before .before .before .before .before .before .full .result .depth ≡ c .before .before .before .before .before .before .before .before .before .before .before .before .before .before .before .args .here .depth - 1 = ap (λ (x : Args). x .depth) e in
-    λ k h. ap (λ (x : Turn). with x (c .before .before .before .before .before .search-node .last .1 .0) (c .before .before .before .before .before .search-node .last .1 .1 .0)) (c .judge .ensures ∙ ap₂ (λ (x : Loc) (y : ℕ). judgeOf (c .before .before .before .before .before .before .before .before .before .before .before .before .before .before .before .args .here) x y (c .before .before .before .before .before .search-node .result)) (c .before .first .ensures) (c .before .before .before .before .before .before .before .before .before .before .move-to .ensures))
-    ∙ turn-first (visitF k (c .before .before .before .before .before .before .before .before .before .before .before .before .before .before .before .args .tree .now) (c .before .before .before .before .before .before .before .before .before .before .before .before .before .before .before .args .set)) (c .before .before .before .before .before .before .before .before .before .before .before .before .before .before .before .args .tree .now) (c .before .before .before .before .before .before .before .before .before .before .before .before .before .before .before .args .set) (c .before .before .before .before .before .before .before .before .before .before .before .before .before .before .before .args .here) (c .before .before .before .before .before .before .before .before .before .before .before .before .before .before .before .args .c) (c .before .before .before .before .before .before .before .before .before .before .before .before .before .before .before .args .i) (c .before .before .before .before .before .before .before .before .before .before .before .before .before .before .before .args .loc) (c .before .before .before .before .before .before .before .before .before .before .before .before .counted .result) (c .before .before .before .before .before .before .before .before .before .before .before .before .before .before .before .args .words .now) (c .before .before .before .before .before .before .before .before .before .before .before .before .before .before .before .args .history .now) (c .before .before .before .before .before .before .before .before .before .before .before .before .counted .ensures) (c .before .before .before .before .before .before .before .before .before .if1 .taken) _
-    (c .before .before .before .before .before .search-node .ensures k (omega (arith, h, g .above, g .in-tree, i .depth-most)) ∙ ap (visitF k (c .before .before .before .before .before .before .before .before .before .before .before .before .before .before .before .args .tree .now) (c .before .before .before .before .before .before .before .before .before .before .before .before .before .before .before .args .set) (c .before .before .before .before .before .before .before .before .before .before .before .before .counted .result .state) (c .before .before .before .before .before .before .before .before .before .before .before .before .before .before .before .args .words .now) (c .before .before .before .before .before .before .before .before .before .before .before .before .before .before .before .args .history .now)) e)
+    let s = c .before .before .before .before .before .before .before .before .before .before .before .before .before .before .before in
+    let child = s .args .c in
+    let here = s .args .here in
+    let tree = s .args .tree .now in
+    let set = s .args .set in
+    let nth = s .args .i in
+    let loc = s .args .loc in
+    let words = s .args .words .now in
+    let history = s .args .history .now in
+    let counted = c .before .before .before .before .before .before .before .before .before .before .before .before .counted in
+    let move-to = c .before .before .before .before .before .before .before .before .before .before .move-to in
+    let if1 = c .before .before .before .before .before .before .before .before .before .if1 in
+    let full = c .before .before .before .before .before .before .full in
+    let search-node = c .before .before .before .before .before .search-node in
+    let first = c .before .first in
+    let i = s .pre .1 .1 .0 in
+    let g = s .pre .1 .1 .1 .0 in
+    let e = full .ensures in
+    let en : full .result .node ≡ child = ap (λ (x : Args). x .node) e in
+    let ed : full .result .depth ≡ here .depth - 1 = ap (λ (x : Args). x .depth) e in
+    λ k h. ap (λ (x : Turn). with x (search-node .last .1 .0) (search-node .last .1 .1 .0))
+    (c .judge .ensures ∙ ap₂ (λ (x : Loc) (y : ℕ). judgeOf here x y (search-node .result)) (first .ensures) (move-to .ensures))
+    ∙ turn-first (visitF k tree set) tree set here child nth loc (counted .result) words history (counted .ensures) (if1 .taken) _
+    (search-node .ensures k (omega (arith, h, g .above, g .in-tree, i .depth-most)) ∙ ap (visitF k tree set (counted .result .state) words history) e)
 
 turn-futile-requires : (t : ℕ) → turn-lts.Need-futile-requires (turn-calls t) (turn-at t) turn.Post
-turn-futile-requires t c κs = (blocked (c .before .before .before .before .before .before .args .set) (c .before .before .before .before .before .before .args .tree .now) (c .before .before .before .before .before .before .pre .1 .0 .accepted), (c .before .before .before .before .before .before .pre .1 .1 .0 .in-tree, c .before .before .before .before .before .before .pre .1 .1 .1 .0 .in-tree))
+turn-futile-requires t c κs =
+    let s = c .before .before .before .before .before .before in
+    let set = s .args .set in
+    let tree = s .args .tree .now in
+    (blocked set tree (s .pre .1 .0 .accepted), (s .pre .1 .1 .0 .in-tree, s .pre .1 .1 .1 .0 .in-tree))
 
 turn-unfinished-requires : (t : ℕ) → turn-lts.Need-unfinished-requires (turn-calls t) (turn-at t) turn.Post
 turn-unfinished-requires t c κs = tt
 
 turn-returns-2 : (t : ℕ) → turn-lts.Need-returns-2 (turn-calls t) (turn-at t) turn.Post
 turn-returns-2 t c =
-    λ k h. ap (λ (x : Turn). with x (c .before .before .before .before .before .before .before .before .before .args .words .now) (c .before .before .before .before .before .before .before .before .before .args .history .now)) (c .unfinished .ensures)
-    ∙ turn-futile (visitF k (c .before .before .before .before .before .before .before .before .before .args .tree .now) (c .before .before .before .before .before .before .before .before .before .args .set)) (c .before .before .before .before .before .before .before .before .before .args .tree .now) (c .before .before .before .before .before .before .before .before .before .args .set) (c .before .before .before .before .before .before .before .before .before .args .here) (c .before .before .before .before .before .before .before .before .before .args .c) (c .before .before .before .before .before .before .before .before .before .args .i) (c .before .before .before .before .before .before .before .before .before .args .loc) (c .before .before .before .before .before .before .counted .result) (c .before .before .before .before .before .before .before .before .before .args .words .now) (c .before .before .before .before .before .before .before .before .before .args .history .now) (c .before .before .before .before .before .before .counted .ensures) (c .before .before .before .if1 .left) (sym (c .before .before .futile .ensures) ∙ c .before .if2 .taken)
+    let s = c .before .before .before .before .before .before .before .before .before in
+    let words = s .args .words .now in
+    let history = s .args .history .now in
+    let tree = s .args .tree .now in
+    let set = s .args .set in
+    let here = s .args .here in
+    let child = s .args .c in
+    let nth = s .args .i in
+    let loc = s .args .loc in
+    let counted = c .before .before .before .before .before .before .counted in
+    let if1 = c .before .before .before .if1 in
+    let futile = c .before .before .futile in
+    let if2 = c .before .if2 in
+    λ k h. ap (λ (x : Turn). with x words history) (c .unfinished .ensures)
+    ∙ turn-futile (visitF k tree set) tree set here child nth loc (counted .result) words history
+    (counted .ensures) (if1 .left) (sym (futile .ensures) ∙ if2 .taken)
 
 turn-reduction-requires : (t : ℕ) → turn-lts.Need-reduction-requires (turn-calls t) (turn-at t) turn.Post
-turn-reduction-requires t c κs = (blocked (c .before .before .before .before .before .before .before .before .args .set) (c .before .before .before .before .before .before .before .before .args .tree .now) (c .before .before .before .before .before .before .before .before .pre .1 .0 .accepted), (c .before .before .before .before .before .before .before .before .pre .1 .1 .0 .in-tree, (c .before .before .before .before .before .before .before .before .pre .1 .1 .1 .0 .in-tree, (c .before .before .before .before .before .before .before .before .pre .1 .1 .0 .depth-least, c .before .before .before .before .before .before .before .before .pre .1 .1 .1 .1))))
+turn-reduction-requires t c κs =
+    let s = c .before .before .before .before .before .before .before .before in
+    let set = s .args .set in
+    let tree = s .args .tree .now in
+    (blocked set tree (s .pre .1 .0 .accepted), (s .pre .1 .1 .0 .in-tree, (s .pre .1 .1 .1 .0 .in-tree, (s .pre .1 .1 .0 .depth-least, s .pre .1 .1 .1 .1))))
 
 turn-reduced-requires : (t : ℕ) → turn-lts.Need-reduced-requires (turn-calls t) (turn-at t) turn.Post
 turn-reduced-requires t c κs =
-    let i = c .before .before .before .before .before .before .before .before .before .before .before .pre .1 .1 .0 in
-    (omega (arith, c .before .before .before .before .before .before .before .before .before .before .before .pre .0), (c .before .before .before .before .before .before .before .before .before .before .before .pre .1 .0, (i, (c .before .before .before .before .before .before .before .before .before .before .before .pre .1 .1 .1 .0, omega (arith, c .before .before .reduction .ensures, reduction-most (c .before .before .before .before .before .before .before .before .before .before .before .args .tree .now) (c .before .before .before .before .before .before .before .before .before .before .before .args .set) (c .before .before .before .before .before .before .before .before .before .before .before .args .here) (c .before .before .before .before .before .before .before .before .before .before .before .args .c) (c .before .before .before .before .before .before .before .before .before .before .before .args .i), i .depth-least)))))
+    let s = c .before .before .before .before .before .before .before .before .before .before .before in
+    let tree = s .args .tree .now in
+    let set = s .args .set in
+    let here = s .args .here in
+    let child = s .args .c in
+    let nth = s .args .i in
+    let reduction = c .before .before .reduction in
+    let i = s .pre .1 .1 .0 in
+    let most = reduction-most tree set here child nth in
+    (omega (arith, s .pre .0), (s .pre .1 .0, (i, (s .pre .1 .1 .1 .0, omega (arith, reduction .ensures, most, i .depth-least)))))
 
 turn-judge-requires-2 : (t : ℕ) → turn-lts.Need-judge-requires-2 (turn-calls t) (turn-at t) turn.Post
 turn-judge-requires-2 t c κs = tt
@@ -439,8 +772,27 @@ turn-same-length-4 t c = c .before .before .before .before .reduced .kept .1 .1 
 
 turn-returns-3 : (t : ℕ) → turn-lts.Need-returns-3 (turn-calls t) (turn-at t) turn.Post
 turn-returns-3 t c =
-    λ k h. ap (λ (x : Turn). with x (c .before .before .before .before .reduced .last .1 .0) (c .before .before .before .before .reduced .last .1 .1 .0)) (c .judge2 .ensures ∙ ap (λ (y : ℕ). judgeOf (c .before .before .before .before .before .before .before .before .before .before .before .before .before .before .before .before .args .here) (c .before .before .before .before .before .before .before .before .before .before .before .before .before .counted .result) y (c .before .before .before .before .reduced .result)) (c .before .before .before .before .before .before .before .before .before .before .before .move-to .ensures))
-    ∙ turn-reduced (visitF k (c .before .before .before .before .before .before .before .before .before .before .before .before .before .before .before .before .args .tree .now) (c .before .before .before .before .before .before .before .before .before .before .before .before .before .before .before .before .args .set)) (c .before .before .before .before .before .before .before .before .before .before .before .before .before .before .before .before .args .tree .now) (c .before .before .before .before .before .before .before .before .before .before .before .before .before .before .before .before .args .set) (c .before .before .before .before .before .before .before .before .before .before .before .before .before .before .before .before .args .here) (c .before .before .before .before .before .before .before .before .before .before .before .before .before .before .before .before .args .c) (c .before .before .before .before .before .before .before .before .before .before .before .before .before .before .before .before .args .i) (c .before .before .before .before .before .before .before .before .before .before .before .before .before .before .before .before .args .loc) (c .before .before .before .before .before .before .before .before .before .before .before .before .before .counted .result) (c .before .before .before .before .before .before .before .before .before .before .before .before .before .before .before .before .args .words .now) (c .before .before .before .before .before .before .before .before .before .before .before .before .before .before .before .before .args .history .now) (c .before .before .before .before .before .before .before .before .before .before .before .before .before .counted .ensures) (c .before .before .before .before .before .before .before .before .before .before .if1 .left) (sym (c .before .before .before .before .before .before .before .before .before .futile .ensures) ∙ c .before .before .before .before .before .before .before .before .if2 .left) _ (c .before .before .before .before .before .before .before .reduction .ensures) _ (c .before .before .before .before .reduced .ensures k h)
+    let at-counted = c .before .before .before .before .before .before .before .before .before .before .before .before .before in
+    let s = at-counted .before .before .before in
+    let here = s .args .here in
+    let tree = s .args .tree .now in
+    let set = s .args .set in
+    let child = s .args .c in
+    let nth = s .args .i in
+    let loc = s .args .loc in
+    let words = s .args .words .now in
+    let history = s .args .history .now in
+    let counted = at-counted .counted in
+    let move-to = c .before .before .before .before .before .before .before .before .before .before .before .move-to in
+    let if1 = c .before .before .before .before .before .before .before .before .before .before .if1 in
+    let futile = c .before .before .before .before .before .before .before .before .before .futile in
+    let if2 = c .before .before .before .before .before .before .before .before .if2 in
+    let reduction = c .before .before .before .before .before .before .before .reduction in
+    let reduced = c .before .before .before .before .reduced in
+    λ k h. ap (λ (x : Turn). with x (reduced .last .1 .0) (reduced .last .1 .1 .0))
+    (c .judge2 .ensures ∙ ap (λ (y : ℕ). judgeOf here (counted .result) y (reduced .result)) (move-to .ensures))
+    ∙ turn-reduced (visitF k tree set) tree set here child nth loc (counted .result) words history
+    (counted .ensures) (if1 .left) (sym (futile .ensures) ∙ if2 .left) _ (reduction .ensures) _ (reduced .ensures k h)
 
 abbrev walk-Inv-loop : walk-lts.InvT-loop
 walk-Inv-loop tree words₀ history₀ set here k n place l₀ i₀ words history l i =
@@ -451,56 +803,120 @@ abbrev walk-μ-loop : walk-lts.MeasureT-loop
 walk-μ-loop tree words₀ history₀ set here k n place l₀ i₀ words history l i = n - i
 
 walk-child-count-requires : (t : ℕ) → walk-lts.Need-child-count-requires (walk-calls t) (walk-at t) walk.Post walk-Inv-loop walk-μ-loop
-walk-child-count-requires t c κs = record-in (c .before .before .args .tree .now) (blocked (c .before .before .args .set) (c .before .before .args .tree .now) (c .before .before .pre .1 .0 .accepted)) (c .before .before .args .here .node) (c .before .before .pre .1 .1 .in-tree)
+walk-child-count-requires t c κs =
+    let s = c .before .before in
+    let tree = s .args .tree .now in
+    let set = s .args .set in
+    let here = s .args .here in
+    record-in tree (blocked set tree (s .pre .1 .0 .accepted)) (here .node) (s .pre .1 .1 .in-tree)
 
 walk-hint-place-requires : (t : ℕ) → walk-lts.Need-hint-place-requires (walk-calls t) (walk-at t) walk.Post walk-Inv-loop walk-μ-loop
-walk-hint-place-requires t c κs = (laid (c .before .before .before .args .set) (c .before .before .before .args .tree .now) (c .before .before .before .pre .1 .0 .accepted), c .before .before .before .pre .1 .1 .in-tree)
+walk-hint-place-requires t c κs =
+    let s = c .before .before .before in
+    (laid (s .args .set) (s .args .tree .now) (s .pre .1 .0 .accepted), s .pre .1 .1 .in-tree)
 
 walk-loop-holds : (t : ℕ) → walk-lts.Need-loop-holds (walk-calls t) (walk-at t) walk.Post walk-Inv-loop walk-μ-loop
 walk-loop-holds t c = (omega arith, (refl, (refl, λ k h. simp sub-zero)))
 
+-- where the walk's turn begins: each child before n, in the order of the walk, is a kid of the node
+module _ (t : ℕ) (p : walk-lts.At-loop (walk-calls t) (walk-at t) walk.Post walk-Inv-loop walk-μ-loop) where
+  abbrev walked : walk-lts.Start (walk-calls t) (walk-at t) walk.Post walk-Inv-loop walk-μ-loop
+  walked = p .before .before .before .before .before
+
+  abbrev nth-child : ℕ → ℕ
+  nth-child j = childOf (walked .args .tree .now) (walked .args .here .node) (p .before .hint-place .result) j
+
+  walk-kid : (j : ℕ) → j < p .before .before .child-count .result → Kid (walked .args .tree .now) (walked .args .here .node) (nth-child j)
+  walk-kid j lt =
+      kid-at (walked .args .set) (walked .args .tree .now) (walked .pre .1 .0 .accepted) (walked .args .here) (walked .args .loc) _
+      (p .before .hint-place .ensures) (walked .pre .1 .1 .in-tree) j (omega (arith, lt, p .before .before .child-count .ensures))
+
 walk-child-requires : (t : ℕ) → walk-lts.Need-child-requires (walk-calls t) (walk-at t) walk.Post walk-Inv-loop walk-μ-loop
 walk-child-requires t c κs =
-    let g = kid (c .before .before .before .before .before .before .args .set) (c .before .before .before .before .before .before .args .tree .now) (c .before .before .before .before .before .before .pre .1 .0 .accepted) (c .before .before .before .before .before .before .args .here .node) (c .before .loop .i) (c .before .before .hint-place .result) (c .before .before .before .before .before .before .pre .1 .1 .in-tree) (subst (Among (countOf (c .before .before .before .before .before .before .args .tree .now) (c .before .before .before .before .before .before .args .here .node))) (sym (c .before .before .hint-place .ensures)) (hint-among (c .before .before .before .before .before .before .args .tree .now) (c .before .before .before .before .before .before .args .here) (c .before .before .before .before .before .before .args .loc))) (omega (arith, c .loop-test .taken, c .before .before .before .child-count .ensures)) in
-    (blocked (c .before .before .before .before .before .before .args .set) (c .before .before .before .before .before .before .args .tree .now) (c .before .before .before .before .before .before .pre .1 .0 .accepted), (c .before .before .before .before .before .before .pre .1 .1 .in-tree, g .in-tree))
+    let s = walked t (c .before) in
+    let g = walk-kid t (c .before) (c .before .loop .i) (omega (arith, c .loop-test .taken)) in
+    (blocked (s .args .set) (s .args .tree .now) (s .pre .1 .0 .accepted), (s .pre .1 .1 .in-tree, g .in-tree))
 
 walk-turn-requires : (t : ℕ) → walk-lts.Need-turn-requires (walk-calls t) (walk-at t) walk.Post walk-Inv-loop walk-μ-loop
 walk-turn-requires t c κs =
-    let g = subst (Kid (c .before .before .before .before .before .before .before .before .before .args .tree .now) (c .before .before .before .before .before .before .before .before .before .args .here .node)) (sym (c .before .before .child .ensures)) (kid (c .before .before .before .before .before .before .before .before .before .args .set) (c .before .before .before .before .before .before .before .before .before .args .tree .now) (c .before .before .before .before .before .before .before .before .before .pre .1 .0 .accepted) (c .before .before .before .before .before .before .before .before .before .args .here .node) (c .before .before .before .before .loop .i) (c .before .before .before .before .before .hint-place .result) (c .before .before .before .before .before .before .before .before .before .pre .1 .1 .in-tree) (subst (Among (countOf (c .before .before .before .before .before .before .before .before .before .args .tree .now) (c .before .before .before .before .before .before .before .before .before .args .here .node))) (sym (c .before .before .before .before .before .hint-place .ensures)) (hint-among (c .before .before .before .before .before .before .before .before .before .args .tree .now) (c .before .before .before .before .before .before .before .before .before .args .here) (c .before .before .before .before .before .before .before .before .before .args .loc))) (omega (arith, c .before .before .before .loop-test .taken, c .before .before .before .before .before .before .child-count .ensures))) in
-    (omega (arith, c .before .before .before .before .before .before .before .before .before .pre .0), (still-ready (c .before .before .before .before .before .before .before .before .before .args .set) (c .before .before .before .before .before .before .before .before .before .args .tree .now) _ _ _ _ (c .before .before .before .before .before .before .before .before .before .pre .1 .0) (c .before .before .before .before .loop .inv .1 .0) (c .before .before .before .before .loop .inv .1 .1 .0), (c .before .before .before .before .before .before .before .before .before .pre .1 .1, (g, omega (arith, c .before .before .before .loop-test .taken, c .before .before .before .before .before .before .child-count .ensures, count-most (c .before .before .before .before .before .before .before .before .before .args .set .inf) (c .before .before .before .before .before .before .before .before .before .args .set .«max_ply») (c .before .before .before .before .before .before .before .before .before .args .tree .now) (c .before .before .before .before .before .before .before .before .before .pre .1 .0 .accepted) (c .before .before .before .before .before .before .before .before .before .args .here .node) (c .before .before .before .before .before .before .before .before .before .pre .1 .1 .in-tree))))))
+    let p = c .before .before .before .before in
+    let s = walked t p in
+    let set = s .args .set in
+    let tree = s .args .tree .now in
+    let here = s .args .here in
+    let ok = s .pre .1 .0 .accepted in
+    let taken = c .before .before .before .loop-test .taken in
+    let inv = p .loop .inv in
+    let g = subst (Kid tree (here .node)) (sym (c .before .before .child .ensures)) (walk-kid t p (p .loop .i) (omega (arith, taken))) in
+    let most = count-most (set .inf) (set .«max_ply») tree ok (here .node) (s .pre .1 .1 .in-tree) in
+    let few : p .loop .i < 63 = omega (arith, taken, p .before .before .child-count .ensures, most) in
+    (omega (arith, s .pre .0), (still-ready set tree _ _ _ _ (s .pre .1 .0) (inv .1 .0) (inv .1 .1 .0), (s .pre .1 .1, (g, few))))
 
 walk-goes-on-requires : (t : ℕ) → walk-lts.Need-goes-on-requires (walk-calls t) (walk-at t) walk.Post walk-Inv-loop walk-μ-loop
 walk-goes-on-requires t c κs = tt
 
 walk-cutoff-requires : (t : ℕ) → walk-lts.Need-cutoff-requires (walk-calls t) (walk-at t) walk.Post walk-Inv-loop walk-μ-loop
 walk-cutoff-requires t c κs =
-    let r = c .before .before .before .before .before .before .before .before .before .before .before .before .before .before .before .before .before .pre .1 .0 in
-    let i = c .before .before .before .before .before .before .before .before .before .before .before .before .before .before .before .before .before .pre .1 .1 in
-    let g = subst (Kid (c .before .before .before .before .before .before .before .before .before .before .before .before .before .before .before .before .before .args .tree .now) (c .before .before .before .before .before .before .before .before .before .before .before .before .before .before .before .before .before .args .here .node)) (sym (c .before .before .before .before .before .before .before .before .before .before .child .ensures)) (kid (c .before .before .before .before .before .before .before .before .before .before .before .before .before .before .before .before .before .args .set) (c .before .before .before .before .before .before .before .before .before .before .before .before .before .before .before .before .before .args .tree .now) (c .before .before .before .before .before .before .before .before .before .before .before .before .before .before .before .before .before .pre .1 .0 .accepted) (c .before .before .before .before .before .before .before .before .before .before .before .before .before .before .before .before .before .args .here .node) (c .before .before .before .before .before .before .before .before .before .before .before .before .loop .i) (c .before .before .before .before .before .before .before .before .before .before .before .before .before .hint-place .result) (c .before .before .before .before .before .before .before .before .before .before .before .before .before .before .before .before .before .pre .1 .1 .in-tree) (subst (Among (countOf (c .before .before .before .before .before .before .before .before .before .before .before .before .before .before .before .before .before .args .tree .now) (c .before .before .before .before .before .before .before .before .before .before .before .before .before .before .before .before .before .args .here .node))) (sym (c .before .before .before .before .before .before .before .before .before .before .before .before .before .hint-place .ensures)) (hint-among (c .before .before .before .before .before .before .before .before .before .before .before .before .before .before .before .before .before .args .tree .now) (c .before .before .before .before .before .before .before .before .before .before .before .before .before .before .before .before .before .args .here) (c .before .before .before .before .before .before .before .before .before .before .before .before .before .before .before .before .before .args .loc))) (omega (arith, c .before .before .before .before .before .before .before .before .before .before .before .loop-test .taken, c .before .before .before .before .before .before .before .before .before .before .before .before .before .before .child-count .ensures))) in (
-      blocked (c .before .before .before .before .before .before .before .before .before .before .before .before .before .before .before .before .before .args .set) (c .before .before .before .before .before .before .before .before .before .before .before .before .before .before .before .before .before .args .tree .now) (r .accepted),
+    let p = c .before .before .before .before .before .before .before .before .before .before .before .before in
+    let s = walked t p in
+    let tree = s .args .tree .now in
+    let here = s .args .here in
+    let taken = c .before .before .before .before .before .before .before .before .before .before .before .loop-test .taken in
+    let kept = c .before .before .before .before .before .before .before .turn .kept in
+    let inv = p .loop .inv in
+    let r = s .pre .1 .0 in
+    let i = s .pre .1 .1 in
+    let child = c .before .before .before .before .before .before .before .before .before .before .child in
+    let g = subst (Kid tree (here .node)) (sym (child .ensures)) (walk-kid t p (p .loop .i) (omega (arith, taken))) in
+    let history = kept .1 .1 .0 ∙ inv .1 .1 .0 ∙ r .history-length in (
+      blocked (s .args .set) tree (r .accepted),
       (
         i .in-tree,
         (
           g .in-tree,
           (
-            λ j lt. (kid (c .before .before .before .before .before .before .before .before .before .before .before .before .before .before .before .before .before .args .set) (c .before .before .before .before .before .before .before .before .before .before .before .before .before .before .before .before .before .args .tree .now) (c .before .before .before .before .before .before .before .before .before .before .before .before .before .before .before .before .before .pre .1 .0 .accepted) (c .before .before .before .before .before .before .before .before .before .before .before .before .before .before .before .before .before .args .here .node) j (c .before .before .before .before .before .before .before .before .before .before .before .before .before .hint-place .result) (c .before .before .before .before .before .before .before .before .before .before .before .before .before .before .before .before .before .pre .1 .1 .in-tree) (subst (Among (countOf (c .before .before .before .before .before .before .before .before .before .before .before .before .before .before .before .before .before .args .tree .now) (c .before .before .before .before .before .before .before .before .before .before .before .before .before .before .before .before .before .args .here .node))) (sym (c .before .before .before .before .before .before .before .before .before .before .before .before .before .hint-place .ensures)) (hint-among (c .before .before .before .before .before .before .before .before .before .before .before .before .before .before .before .before .before .args .tree .now) (c .before .before .before .before .before .before .before .before .before .before .before .before .before .before .before .before .before .args .here) (c .before .before .before .before .before .before .before .before .before .before .before .before .before .before .before .before .before .args .loc))) (omega (arith, lt, c .before .before .before .before .before .before .before .before .before .before .before .loop-test .taken, c .before .before .before .before .before .before .before .before .before .before .before .before .before .before .child-count .ensures))) .in-tree,
-            (omega (arith, c .before .before .before .before .before .before .before .turn .kept .1 .0, c .before .before .before .before .before .before .before .before .before .before .before .before .loop .inv .1 .0, r .words-least), (c .before .before .before .before .before .before .before .turn .kept .1 .1 .0 ∙ c .before .before .before .before .before .before .before .before .before .before .before .before .loop .inv .1 .1 .0 ∙ r .history-length, (i .side-most, (i .depth-most, r .hh-above)))),
+            λ j lt. walk-kid t p j (omega (arith, lt, taken)) .in-tree,
+            (omega (arith, kept .1 .0, inv .1 .0, r .words-least), (history, (i .side-most, (i .depth-most, r .hh-above)))),
           ),
         ),
       ),
     )
 
 walk-same-length : (t : ℕ) → walk-lts.Need-same-length (walk-calls t) (walk-at t) walk.Post walk-Inv-loop walk-μ-loop
-walk-same-length t c = c .before .before .before .cutoff .kept .1 .0 ∙ c .before .before .before .before .before .before .before .before .before .before .before .turn .kept .1 .0 ∙ c .before .before .before .before .before .before .before .before .before .before .before .before .before .before .before .before .loop .inv .1 .0
+walk-same-length t c =
+    let p = c .before .before .before .before .before .before .before .before .before .before .before in
+    c .before .before .before .cutoff .kept .1 .0 ∙ p .turn .kept .1 .0 ∙ p .before .before .before .before .before .loop .inv .1 .0
 
 walk-same-length-2 : (t : ℕ) → walk-lts.Need-same-length-2 (walk-calls t) (walk-at t) walk.Post walk-Inv-loop walk-μ-loop
-walk-same-length-2 t c = c .before .before .before .cutoff .kept .1 .1 .0 ∙ c .before .before .before .before .before .before .before .before .before .before .before .turn .kept .1 .1 .0 ∙ c .before .before .before .before .before .before .before .before .before .before .before .before .before .before .before .before .loop .inv .1 .1 .0
+walk-same-length-2 t c =
+    let p = c .before .before .before .before .before .before .before .before .before .before .before in
+    c .before .before .before .cutoff .kept .1 .1 .0 ∙ p .turn .kept .1 .1 .0 ∙ p .before .before .before .before .before .loop .inv .1 .1 .0
 
 walk-returns : (t : ℕ) → walk-lts.Need-returns (walk-calls t) (walk-at t) walk.Post walk-Inv-loop walk-μ-loop
 walk-returns t c =
-    λ k h. c .before .before .before .cutoff .ensures ∙ ap₂ (λ (x : ℕ) (y : Loc). cutoffOf (c .before .before .before .before .before .before .before .before .before .before .before .before .before .before .before .before .before .before .before .before .before .args .tree .now) (c .before .before .before .before .before .before .before .before .before .before .before .before .before .before .before .before .before .before .before .before .before .args .set) (c .before .before .before .before .before .before .before .before .before .before .before .before .before .before .before .before .before .before .before .before .before .args .here) (c .before .before .before .before .before .before .before .before .before .before .before .before .before .before .before .before .before .hint-place .result) x (c .before .before .before .before .before .before .before .before .before .before .before .before .before .before .before .before .loop .i) y (c .before .before .before .before .before .before .before .before .before .before .before .turn .last .1 .0) (c .before .before .before .before .before .before .before .before .before .before .before .turn .last .1 .1 .0)) (c .before .before .before .before .before .before .before .before .before .before .before .before .before .before .child .ensures) (c .before .before .before .before .before .before .before .goes-on .ensures)
-    ∙ sym (walk-cut (visitF k (c .before .before .before .before .before .before .before .before .before .before .before .before .before .before .before .before .before .before .before .before .before .args .tree .now) (c .before .before .before .before .before .before .before .before .before .before .before .before .before .before .before .before .before .before .before .before .before .args .set)) (c .before .before .before .before .before .before .before .before .before .before .before .before .before .before .before .before .before .before .before .before .before .args .tree .now) (c .before .before .before .before .before .before .before .before .before .before .before .before .before .before .before .before .before .before .before .before .before .args .set) (c .before .before .before .before .before .before .before .before .before .before .before .before .before .before .before .before .before .before .before .before .before .args .here) (c .before .before .before .before .before .before .before .before .before .before .before .before .before .before .before .before .before .hint-place .result) (c .before .before .before .before .before .before .before .before .before .before .before .before .before .before .before .before .before .before .child-count .result) (c .before .before .before .before .before .before .before .before .before .before .before .before .before .before .before .before .loop .i) (c .before .before .before .before .before .before .before .before .before .before .before .before .before .before .before .before .loop .l) (c .before .before .before .before .before .before .before .before .before .before .before .before .before .before .before .before .loop .words) (c .before .before .before .before .before .before .before .before .before .before .before .before .before .before .before .before .loop .history) (with (c .before .before .before .before .before .before .before .before .before .before .before .turn .result) (c .before .before .before .before .before .before .before .before .before .before .before .turn .last .1 .0) (c .before .before .before .before .before .before .before .before .before .before .before .turn .last .1 .1 .0)) (c .before .before .before .before .before .before .before .before .before .before .before .before .before .before .before .loop-test .taken) (c .before .before .before .before .before .before .before .before .before .before .before .turn .ensures k h ∙ ap (λ (x : ℕ). turnF (visitF k (c .before .before .before .before .before .before .before .before .before .before .before .before .before .before .before .before .before .before .before .before .before .args .tree .now) (c .before .before .before .before .before .before .before .before .before .before .before .before .before .before .before .before .before .before .before .before .before .args .set)) (c .before .before .before .before .before .before .before .before .before .before .before .before .before .before .before .before .before .before .before .before .before .args .tree .now) (c .before .before .before .before .before .before .before .before .before .before .before .before .before .before .before .before .before .before .before .before .before .args .set) (c .before .before .before .before .before .before .before .before .before .before .before .before .before .before .before .before .before .before .before .before .before .args .here) x (c .before .before .before .before .before .before .before .before .before .before .before .before .before .before .before .before .loop .i) (c .before .before .before .before .before .before .before .before .before .before .before .before .before .before .before .before .loop .l) (c .before .before .before .before .before .before .before .before .before .before .before .before .before .before .before .before .loop .words) (c .before .before .before .before .before .before .before .before .before .before .before .before .before .before .before .before .loop .history)) (c .before .before .before .before .before .before .before .before .before .before .before .before .before .before .child .ensures)) (c .before .before .before .before .before .before .if1 .taken))
-    ∙ c .before .before .before .before .before .before .before .before .before .before .before .before .before .before .before .before .loop .inv .1 .1 .1 k h ∙ ap₂ (λ (x : Place) (y : ℕ). walkF (visitF k (c .before .before .before .before .before .before .before .before .before .before .before .before .before .before .before .before .before .before .before .before .before .args .tree .now) (c .before .before .before .before .before .before .before .before .before .before .before .before .before .before .before .before .before .before .before .before .before .args .set)) (c .before .before .before .before .before .before .before .before .before .before .before .before .before .before .before .before .before .before .before .before .before .args .tree .now) (c .before .before .before .before .before .before .before .before .before .before .before .before .before .before .before .before .before .before .before .before .before .args .set) (c .before .before .before .before .before .before .before .before .before .before .before .before .before .before .before .before .before .before .before .before .before .args .here) x y 0 (c .before .before .before .before .before .before .before .before .before .before .before .before .before .before .before .before .before .before .before .before .before .args .loc) (c .before .before .before .before .before .before .before .before .before .before .before .before .before .before .before .before .before .before .before .before .before .args .words .now) (c .before .before .before .before .before .before .before .before .before .before .before .before .before .before .before .before .before .before .before .before .before .args .history .now)) (c .before .before .before .before .before .before .before .before .before .before .before .before .before .before .before .before .before .hint-place .ensures) (c .before .before .before .before .before .before .before .before .before .before .before .before .before .before .before .before .before .before .child-count .ensures)
+    let p = c .before .before .before .before .before .before .before .before .before .before .before .before .before .before .before .before in
+    let s = walked t p in
+    let tree = s .args .tree .now in
+    let set = s .args .set in
+    let here = s .args .here in
+    let place = p .before .hint-place in
+    let count = p .before .before .child-count in
+    let loop = p .loop in
+    let child = c .before .before .before .before .before .before .before .before .before .before .before .before .before .before .child in
+    let turn = c .before .before .before .before .before .before .before .before .before .before .before .turn in
+    let words = turn .last .1 .0 in
+    let history = turn .last .1 .1 .0 in
+    let goes-on = c .before .before .before .before .before .before .before .goes-on in
+    let taken = c .before .before .before .before .before .before .before .before .before .before .before .before .before .before .before .loop-test .taken in
+    λ k h. c .before .before .before .cutoff .ensures
+    ∙ ap₂ (λ (x : ℕ) (y : Loc). cutoffOf tree set here (place .result) x (loop .i) y words history) (child .ensures) (goes-on .ensures)
+    ∙ sym (walk-cut (visitF k tree set) tree set here (place .result) (count .result) (loop .i) (loop .l) (loop .words) (loop .history)
+    (with (turn .result) words history) taken
+    (turn .ensures k h ∙ ap (λ (x : ℕ). turnF (visitF k tree set) tree set here x (loop .i) (loop .l) (loop .words) (loop .history)) (child .ensures))
+    (c .before .before .before .before .before .before .if1 .taken))
+    ∙ loop .inv .1 .1 .1 k h
+    ∙ ap₂ (λ (x : Place) (y : ℕ). walkF (visitF k tree set) tree set here x y 0 (s .args .loc) (s .args .words .now) (s .args .history .now))
+    (place .ensures) (count .ensures)
 
 walk-add-i : (t : ℕ) → walk-lts.Need-add-i (walk-calls t) (walk-at t) walk.Post walk-Inv-loop walk-μ-loop
 walk-add-i t c = omega arith
@@ -510,7 +926,33 @@ walk-loop-less t c = omega arith
 
 walk-loop-again : (t : ℕ) → walk-lts.Need-loop-again (walk-calls t) (walk-at t) walk.Post walk-Inv-loop walk-μ-loop
 walk-loop-again t c =
-    (omega arith, (c .before .before .before .before .before .turn .kept .1 .0 ∙ c .before .before .before .before .before .before .before .before .before .before .loop .inv .1 .0, (c .before .before .before .before .before .turn .kept .1 .1 .0 ∙ c .before .before .before .before .before .before .before .before .before .before .loop .inv .1 .1 .0, λ k h. ap (λ (x : Loc). walkF (visitF k (c .before .before .before .before .before .before .before .before .before .before .before .before .before .before .before .args .tree .now) (c .before .before .before .before .before .before .before .before .before .before .before .before .before .before .before .args .set)) (c .before .before .before .before .before .before .before .before .before .before .before .before .before .before .before .args .tree .now) (c .before .before .before .before .before .before .before .before .before .before .before .before .before .before .before .args .set) (c .before .before .before .before .before .before .before .before .before .before .before .before .before .before .before .args .here) (c .before .before .before .before .before .before .before .before .before .before .before .hint-place .result) (c .before .before .before .before .before .before .before .before .before .before .before .before .child-count .result - (c .before .before .before .before .before .before .before .before .before .before .loop .i + 1)) (c .before .before .before .before .before .before .before .before .before .before .loop .i + 1) x (c .before .before .before .before .before .turn .last .1 .0) (c .before .before .before .before .before .turn .last .1 .1 .0)) (c .before .goes-on .ensures) ∙ sym (walk-next (visitF k (c .before .before .before .before .before .before .before .before .before .before .before .before .before .before .before .args .tree .now) (c .before .before .before .before .before .before .before .before .before .before .before .before .before .before .before .args .set)) (c .before .before .before .before .before .before .before .before .before .before .before .before .before .before .before .args .tree .now) (c .before .before .before .before .before .before .before .before .before .before .before .before .before .before .before .args .set) (c .before .before .before .before .before .before .before .before .before .before .before .before .before .before .before .args .here) (c .before .before .before .before .before .before .before .before .before .before .before .hint-place .result) (c .before .before .before .before .before .before .before .before .before .before .before .before .child-count .result) (c .before .before .before .before .before .before .before .before .before .before .loop .i) (c .before .before .before .before .before .before .before .before .before .before .loop .l) (c .before .before .before .before .before .before .before .before .before .before .loop .words) (c .before .before .before .before .before .before .before .before .before .before .loop .history) (with (c .before .before .before .before .before .turn .result) (c .before .before .before .before .before .turn .last .1 .0) (c .before .before .before .before .before .turn .last .1 .1 .0)) (c .before .before .before .before .before .before .before .before .before .loop-test .taken) (c .before .before .before .before .before .turn .ensures k h ∙ ap (λ (x : ℕ). turnF (visitF k (c .before .before .before .before .before .before .before .before .before .before .before .before .before .before .before .args .tree .now) (c .before .before .before .before .before .before .before .before .before .before .before .before .before .before .before .args .set)) (c .before .before .before .before .before .before .before .before .before .before .before .before .before .before .before .args .tree .now) (c .before .before .before .before .before .before .before .before .before .before .before .before .before .before .before .args .set) (c .before .before .before .before .before .before .before .before .before .before .before .before .before .before .before .args .here) x (c .before .before .before .before .before .before .before .before .before .before .loop .i) (c .before .before .before .before .before .before .before .before .before .before .loop .l) (c .before .before .before .before .before .before .before .before .before .before .loop .words) (c .before .before .before .before .before .before .before .before .before .before .loop .history)) (c .before .before .before .before .before .before .before .before .child .ensures)) (c .if1 .left)) ∙ c .before .before .before .before .before .before .before .before .before .before .loop .inv .1 .1 .1 k h)))
+    let p = c .before .before .before .before .before .before .before .before .before .before in
+    let s = walked t p in
+    let tree = s .args .tree .now in
+    let set = s .args .set in
+    let here = s .args .here in
+    let place = p .before .hint-place .result in
+    let n = p .before .before .child-count .result in
+    let loop = p .loop in
+    let turn = c .before .before .before .before .before .turn in
+    let words = turn .last .1 .0 in
+    let history = turn .last .1 .1 .0 in
+    let taken = c .before .before .before .before .before .before .before .before .before .loop-test .taken in
+    let child = c .before .before .before .before .before .before .before .before .child in (
+      omega (arith, taken),
+      (
+        turn .kept .1 .0 ∙ loop .inv .1 .0,
+        (
+          turn .kept .1 .1 .0 ∙ loop .inv .1 .1 .0,
+          λ k h. ap (λ (x : Loc). walkF (visitF k tree set) tree set here place (n - (loop .i + 1)) (loop .i + 1) x words history) (c .before .goes-on .ensures)
+              ∙ sym (walk-next (visitF k tree set) tree set here place n (loop .i) (loop .l) (loop .words) (loop .history)
+              (with (turn .result) words history) taken
+              (turn .ensures k h ∙ ap (λ (x : ℕ). turnF (visitF k tree set) tree set here x (loop .i) (loop .l) (loop .words) (loop .history)) (child .ensures))
+              (c .if1 .left))
+              ∙ loop .inv .1 .1 .1 k h,
+        ),
+      ),
+    )
 
 walk-unfinished-requires : (t : ℕ) → walk-lts.Need-unfinished-requires (walk-calls t) (walk-at t) walk.Post walk-Inv-loop walk-μ-loop
 walk-unfinished-requires t c κs = tt
@@ -523,26 +965,46 @@ walk-same-length-4 t c = c .before .before .loop .inv .1 .1 .0
 
 walk-returns-2 : (t : ℕ) → walk-lts.Need-returns-2 (walk-calls t) (walk-at t) walk.Post walk-Inv-loop walk-μ-loop
 walk-returns-2 t c =
-    λ k h. ap (λ (x : Turn). with x (c .before .before .loop .words) (c .before .before .loop .history)) (c .unfinished .ensures)
-    ∙ sym (walk-over (visitF k (c .before .before .before .before .before .before .before .args .tree .now) (c .before .before .before .before .before .before .before .args .set)) (c .before .before .before .before .before .before .before .args .tree .now) (c .before .before .before .before .before .before .before .args .set) (c .before .before .before .before .before .before .before .args .here) (c .before .before .before .hint-place .result) (c .before .before .before .before .child-count .result) (c .before .before .loop .i) (c .before .before .loop .l) (c .before .before .loop .words) (c .before .before .loop .history) (c .before .loop-test .left))
-    ∙ c .before .before .loop .inv .1 .1 .1 k h ∙ ap₂ (λ (x : Place) (y : ℕ). walkF (visitF k (c .before .before .before .before .before .before .before .args .tree .now) (c .before .before .before .before .before .before .before .args .set)) (c .before .before .before .before .before .before .before .args .tree .now) (c .before .before .before .before .before .before .before .args .set) (c .before .before .before .before .before .before .before .args .here) x y 0 (c .before .before .before .before .before .before .before .args .loc) (c .before .before .before .before .before .before .before .args .words .now) (c .before .before .before .before .before .before .before .args .history .now)) (c .before .before .before .hint-place .ensures) (c .before .before .before .before .child-count .ensures)
+    let p = c .before .before in
+    let s = walked t p in
+    let tree = s .args .tree .now in
+    let set = s .args .set in
+    let here = s .args .here in
+    let place = p .before .hint-place in
+    let count = p .before .before .child-count in
+    let loop = p .loop in
+    λ k h. ap (λ (x : Turn). with x (loop .words) (loop .history)) (c .unfinished .ensures)
+    ∙ sym (walk-over (visitF k tree set) tree set here (place .result) (count .result) (loop .i) (loop .l) (loop .words) (loop .history)
+    (c .before .loop-test .left))
+    ∙ loop .inv .1 .1 .1 k h
+    ∙ ap₂ (λ (x : Place) (y : ℕ). walkF (visitF k tree set) tree set here x y 0 (s .args .loc) (s .args .words .now) (s .args .history .now))
+    (place .ensures) (count .ensures)
 
 widened-inside-requires : (t : ℕ) → widened-lts.Need-inside-requires (widened-calls t) (widened-at t) widened.Post
 widened-inside-requires t c κs = tt
 
 widened-full-requires : (t : ℕ) → widened-lts.Need-full-requires (widened-calls t) (widened-at t) widened.Post
 widened-full-requires t c κs =
-    let i = c .before .before .before .before .before .before .before .pre .1 .1 .0 in
-    (i .side-most, (i .depth-least, omega (arith, i .ply-most, level-low (c .before .before .before .before .before .before .before .args .set) (c .before .before .before .before .before .before .before .args .tree .now) (c .before .before .before .before .before .before .before .pre .1 .0 .accepted) (c .before .before .before .before .before .before .before .args .here .node))))
+    let s = c .before .before .before .before .before .before .before in
+    let set = s .args .set in
+    let tree = s .args .tree .now in
+    let here = s .args .here in
+    let i = s .pre .1 .1 .0 in
+    (i .side-most, (i .depth-least, omega (arith, i .ply-most, level-low set tree (s .pre .1 .0 .accepted) (here .node))))
 
 widened-search-node-requires : (t : ℕ) → widened-lts.Need-search-node-requires (widened-calls t) (widened-at t) widened.Post
 widened-search-node-requires t c κs =
-    let i = c .before .before .before .before .before .before .before .before .pre .1 .1 .0 in
-    let g = c .before .before .before .before .before .before .before .before .pre .1 .1 .1 in
+    let s = c .before .before .before .before .before .before .before .before in
+    let child = s .args .c in
+    let here = s .args .here in
+    let tree = s .args .tree .now in
+    let loc = s .args .loc in
+    let i = s .pre .1 .1 .0 in
+    let g = s .pre .1 .1 .1 in
     let e = c .full .ensures in
-    let en : c .full .result .node ≡ c .before .before .before .before .before .before .before .before .args .c = ap (λ (x : Args). x .node) e in
-    let ed : c .full .result .depth ≡ c .before .before .before .before .before .before .before .before .args .here .depth - 1 = ap (λ (x : Args). x .depth) e in
-    (omega (arith, c .before .before .before .before .before .before .before .before .pre .0, g .above, g .in-tree, i .depth-most), (c .before .before .before .before .before .before .before .before .pre .1 .0, subst (Reach (c .before .before .before .before .before .before .before .before .args .tree .now)) (sym e) (to-full (c .before .before .before .before .before .before .before .before .args .tree .now) (c .before .before .before .before .before .before .before .before .args .here) (c .before .before .before .before .before .before .before .before .args .loc) (c .before .before .before .before .before .before .before .before .args .c) i g)))
+    let en : c .full .result .node ≡ child = ap (λ (x : Args). x .node) e in
+    let ed : c .full .result .depth ≡ here .depth - 1 = ap (λ (x : Args). x .depth) e in
+    (omega (arith, s .pre .0, g .above, g .in-tree, i .depth-most), (s .pre .1 .0, subst (Reach tree) (sym e) (to-full tree here loc child i g)))
 
 widened-same-length : (t : ℕ) → widened-lts.Need-same-length (widened-calls t) (widened-at t) widened.Post
 widened-same-length t c = c .before .before .before .search-node .kept .1 .0
@@ -552,16 +1014,40 @@ widened-same-length-2 t c = c .before .before .before .search-node .kept .1 .1 .
 
 widened-returns : (t : ℕ) → widened-lts.Need-returns (widened-calls t) (widened-at t) widened.Post
 widened-returns t c =
-    let i = c .before .before .before .before .before .before .before .before .before .before .before .before .pre .1 .1 .0 in
-    let g = c .before .before .before .before .before .before .before .before .before .before .before .before .pre .1 .1 .1 in
-    let e = c .before .before .before .before .full .ensures in
-    let en : c .before .before .before .before .full .result .node ≡ c .before .before .before .before .before .before .before .before .before .before .before .before .args .c = ap (λ (x : Args). x .node) e in
-    let ed : c .before .before .before .before .full .result .depth ≡ c .before .before .before .before .before .before .before .before .before .before .before .before .args .here .depth - 1 = ap (λ (x : Args). x .depth) e in
-    λ k h. widen-yes (visitF k (c .before .before .before .before .before .before .before .before .before .before .before .before .args .tree .now) (c .before .before .before .before .before .before .before .before .before .before .before .before .args .set)) (c .before .before .before .before .before .before .before .before .before .before .before .before .args .here) (c .before .before .before .before .before .before .before .before .before .before .before .before .args .loc) (c .before .before .before .before .before .before .before .before .before .before .before .before .args .c) (with (c .before .before .before .before .before .before .before .before .before .before .before .before .args .r) (c .before .before .before .before .before .before .before .before .before .before .before .before .args .words .now) (c .before .before .before .before .before .before .before .before .before .before .before .before .args .history .now)) (sym (c .before .before .before .before .before .before .before .before .before .inside .ensures) ∙ c .before .before .before .before .before .before .before .before .if1 .taken) _
-    (c .before .before .before .search-node .ensures k (omega (arith, h, g .above, g .in-tree, i .depth-most)) ∙ ap (visitF k (c .before .before .before .before .before .before .before .before .before .before .before .before .args .tree .now) (c .before .before .before .before .before .before .before .before .before .before .before .before .args .set) (c .before .before .before .before .before .before .before .before .before .before .before .before .args .r .state) (c .before .before .before .before .before .before .before .before .before .before .before .before .args .words .now) (c .before .before .before .before .before .before .before .before .before .before .before .before .args .history .now)) e)
+    let s = c .before .before .before .before .before .before .before .before .before .before .before .before in
+    let child = s .args .c in
+    let here = s .args .here in
+    let tree = s .args .tree .now in
+    let set = s .args .set in
+    let loc = s .args .loc in
+    let r = s .args .r in
+    let words = s .args .words .now in
+    let history = s .args .history .now in
+    let inside = c .before .before .before .before .before .before .before .before .before .inside in
+    let if1 = c .before .before .before .before .before .before .before .before .if1 in
+    let full = c .before .before .before .before .full in
+    let search-node = c .before .before .before .search-node in
+    let i = s .pre .1 .1 .0 in
+    let g = s .pre .1 .1 .1 in
+    let e = full .ensures in
+    let en : full .result .node ≡ child = ap (λ (x : Args). x .node) e in
+    let ed : full .result .depth ≡ here .depth - 1 = ap (λ (x : Args). x .depth) e in
+    λ k h. widen-yes (visitF k tree set) here loc child (with r words history) (sym (inside .ensures) ∙ if1 .taken) _
+    (search-node .ensures k (omega (arith, h, g .above, g .in-tree, i .depth-most)) ∙ ap (visitF k tree set (r .state) words history) e)
 
 widened-returns-2 : (t : ℕ) → widened-lts.Need-returns-2 (widened-calls t) (widened-at t) widened.Post
-widened-returns-2 t c = λ k h. widen-no (visitF k (c .before .before .before .before .args .tree .now) (c .before .before .before .before .args .set)) (c .before .before .before .before .args .here) (c .before .before .before .before .args .loc) (c .before .before .before .before .args .c) (with (c .before .before .before .before .args .r) (c .before .before .before .before .args .words .now) (c .before .before .before .before .args .history .now)) (sym (c .before .inside .ensures) ∙ c .if1 .left)
+widened-returns-2 t c =
+    let s = c .before .before .before .before in
+    let tree = s .args .tree .now in
+    let set = s .args .set in
+    let here = s .args .here in
+    let loc = s .args .loc in
+    let child = s .args .c in
+    let r = s .args .r in
+    let words = s .args .words .now in
+    let history = s .args .history .now in
+    let inside = c .before .inside in
+    λ k h. widen-no (visitF k tree set) here loc child (with r words history) (sym (inside .ensures) ∙ c .if1 .left)
 
 pub +deepen+reduced+search-node+turn+walk+widened-spec : {M : Type 1} → statement M
 +deepen+reduced+search-node+turn+walk+widened-spec =
