@@ -1,5 +1,1 @@
-pub mod Floats
-pub mod Halving
 pub mod Lengths
-pub mod Lines
-pub mod Sums

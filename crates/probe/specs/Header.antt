@@ -3,26 +3,13 @@ use mathlib.Core.Bool.{Bool, not, _&&_, _||_}
 use mathlib.Core.List.{List}
 use Prim.Native.Nat.{ℕ, _/_, _%_}
 use lib.Dec.{eqb, leb, ltb}
-use lib.IntN.{ℤ}
-use lib.ListN.{getD}
-use mir.Syntax.{w8, w16}
-use Rattle.score.specs.Bits.{signedOf}
 use Rattle.table.specs.declared.Stats.{Stats}
 use Rattle.record.specs.Bytes.{le}
 use Rattle.state.specs.declared.Settings.{Settings}
 use Rattle.desk.specs.declared.node_search.Start.{Start}
+use Rattle.probe_input.specs.Fields.{byteAt, signed8At, signed16At}
+use Rattle.probe_input.specs.declared.input.Sent.{Sent}
 use Rattle.probe.specs.declared.header.Header.{Header}
-use Rattle.probe.specs.declared.header.Sent.{Sent}
-
-abbrev pub byteAt : List ℕ → ℕ → ℕ
-byteAt s at = getD s at 0
-
--- a signed field of two bytes, of one
-abbrev pub signed16At : List ℕ → ℕ → ℤ
-signed16At s at = signedOf w16 (le s at 2)
-
-abbrev pub signed8At : List ℕ → ℕ → ℤ
-signed8At s at = signedOf w8 (byteAt s at)
 
 -- the lowest bit
 abbrev pub odd : ℕ → Bool

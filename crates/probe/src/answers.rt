@@ -1,9 +1,9 @@
 // The answers of kinds 1 to 4: root search, node search, tree check, node record.
-use crate::fnv;
 use crate::header::Header;
-use crate::text;
 use desk::node_search;
 use desk::root_search;
+use probe_text::fnv;
+use probe_text::text;
 use results::NodeResult;
 use results::RootResult;
 use table::Stats;

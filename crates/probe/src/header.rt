@@ -1,8 +1,10 @@
 // A request's header of 96 bytes.
 ghost use mathlib.Core.Path.{_≡_};
 ghost use Prim.Native.Nat.{_+_, _≤_};
-ghost use Rattle.probe.specs.Header.{signed16At, odd, settingsOf, statsOf, startOf, sentOf, headerOf, kindRight, lengthsRight, headerRight};
+ghost use Rattle.probe_input.specs.Fields.{signed16At};
+ghost use Rattle.probe.specs.Header.{odd, settingsOf, statsOf, startOf, sentOf, headerOf, kindRight, lengthsRight, headerRight};
 use desk::node_search::Start;
+use probe_input::input::Sent;
 use record::bytes;
 use state::Settings;
 use table::Stats;
@@ -21,12 +23,6 @@ pub struct Header {
     pub entries: usize,
     pub steps: usize,
     pub sent: Sent,
-}
-
-// Whether the table's words and the history's entries are sent; else they are all zero.
-pub struct Sent {
-    pub words: bool,
-    pub entries: bool,
 }
 
 // Whether a byte is odd: its lowest bit. A caller divides for the others.

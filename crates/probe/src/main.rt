@@ -1,20 +1,17 @@
 // The probe: reads requests from standard input until it ends, and answers each with lines on standard output.
 mod answers; // answers.rt: kinds 1 to 4
-mod clock_script; // clock_script.rt: kind 5
-mod float; // float.rt: a float written exactly
-mod fnv; // fnv.rt: the sums over table and history
 mod header; // header.rt: a request's header
-mod history_script; // history_script.rt: kind 7
-mod input; // input.rt: reading whole parts of the input
-mod step; // step.rt: a script's step
-mod table_script; // table_script.rt: kind 6
-mod text; // text.rt: a line of an answer
 
 ghost use mathlib.Core.Path.{_≡_};
 ghost use lib.ListN.{length};
 ghost use Rattle.probe.specs.Room.{Roomy};
 use header::Header;
-use input::Filled;
+use probe_input::input;
+use probe_input::input::Filled;
+use probe_scripts::clock_script;
+use probe_scripts::history_script;
+use probe_scripts::table_script;
+use probe_text::text;
 
 // Answers a request whose body has been read; false where the run ends.
 fn answer(h: Header, tree: &[u8], words: &mut [u64], history: &mut [i16], steps: &[u8]) -> bool {

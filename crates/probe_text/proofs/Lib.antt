@@ -1,0 +1,4 @@
+pub mod Floats
+pub mod Halving
+pub mod Lines
+pub mod Sums

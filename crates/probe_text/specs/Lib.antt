@@ -1,0 +1,3 @@
+pub mod Float
+pub mod Fnv
+pub mod Line
