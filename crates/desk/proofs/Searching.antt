@@ -10,7 +10,7 @@ use borrow.Author.Tests.{leb-true, le-leb}
 use Rattle.table.specs.declared.Stats.{Stats}
 use Rattle.state.specs.declared.Settings.{Settings}
 use Rattle.carry.specs.Carry.{With, with}
-use Rattle.search.specs.Reach.{Ready}
+use Rattle.visits.specs.Reach.{Ready}
 use Rattle.root_steps.specs.declared.Depths.{Depths}
 use Rattle.root.specs.Root.{rootSearch}
 use Rattle.refusals.specs.Rows.{rangeRight}

@@ -13,7 +13,7 @@ use Rattle.moves.specs.Kid.{Kid}
 use Rattle.moves.specs.Order.{childOf}
 use Rattle.moves.proofs.Kids.{kid}
 use Rattle.moves.proofs.Ordered.{Among, place-among}
-use Rattle.search.specs.Reach.{Reach}
+use Rattle.visits.specs.Reach.{Reach}
 use Rattle.root_steps.specs.declared.Best.{Best}
 use Rattle.root_steps.specs.declared.Walked.{Walked}
 use Rattle.root_steps.specs.Step.{placeRoot, downOf}

@@ -9,7 +9,7 @@ use Rattle.table.specs.declared.Stats.{Stats}
 use Rattle.history.specs.Entries.{clearOf}
 use Rattle.state.specs.declared.Settings.{Settings}
 use Rattle.carry.specs.Carry.{With, with}
-use Rattle.search.specs.Search.{Visit, nodeSearch}
+use Rattle.visits.specs.Search.{Visit, nodeSearch}
 use Rattle.root_steps.specs.declared.Depths.{Depths}
 use Rattle.root_steps.specs.declared.Walked.{Walked}
 use Rattle.root_steps.specs.Step.{freshOf, matedOf}

@@ -25,7 +25,7 @@ use Rattle.turn.specs.Window.{againOf, insideOf, raiseIf, judgeOf}
 use Rattle.turn.specs.Prune.{futileOf, lateOf, reductionIf}
 use Rattle.leave.specs.Cutoff.{cutoffOf}
 use Rattle.leave.specs.Finish.{gameEnd, storedOf, endIf, finishIf}
-use Rattle.search.specs.Search as search
+use Rattle.visits.specs.Search as search
 use Rattle.root_steps.specs.declared.Best.{Best}
 use Rattle.root_steps.specs.declared.Depths.{Depths}
 use Rattle.root_steps.specs.Step as root

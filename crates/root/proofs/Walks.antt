@@ -13,7 +13,7 @@ use Rattle.moves.specs.declared.Place.{Place}
 use Rattle.moves.specs.Order.{childOf}
 use Rattle.carry.specs.declared.Args.{Args}
 use Rattle.carry.specs.Carry.{With, with}
-use Rattle.search.specs.Search.{Visit}
+use Rattle.visits.specs.Search.{Visit}
 use Rattle.root_steps.specs.declared.Best.{Best}
 use Rattle.root_steps.specs.declared.Walked.{Walked}
 use Rattle.root_steps.specs.Step.{beginOf, placeRoot, polledOf, countedOf, downOf}

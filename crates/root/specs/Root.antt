@@ -12,7 +12,7 @@ use Rattle.state.specs.declared.Out.{Out}
 use Rattle.moves.specs.declared.Place.{Place}
 use Rattle.moves.specs.Order.{childOf}
 use Rattle.carry.specs.Carry.{With, with, beside}
-use Rattle.search.specs.Search.{Visit, nodeSearch}
+use Rattle.visits.specs.Search.{Visit, nodeSearch}
 use Rattle.root_steps.specs.declared.Best.{Best}
 use Rattle.root_steps.specs.declared.Depths.{Depths}
 use Rattle.root_steps.specs.declared.Walked.{Walked}

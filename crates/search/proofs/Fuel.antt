@@ -31,9 +31,9 @@ use Rattle.enter.specs.Enter.{hintPlace, extendOf, enterOf, deepensOf, innerOf}
 use Rattle.turn.specs.Window.{countedOf, fullOf, nullOf, againOf, insideOf}
 use Rattle.turn.specs.Prune.{futileOf, reductionAt}
 use Rattle.leave.specs.Finish.{finishOf}
-use Rattle.search.specs.Reach.{Reach, need}
-use Rattle.search.specs.Search.{Visit, captureOf, widenIf, widenF, againIf, againF, reducedF, judged, judgedFirst, futileIf, turnIf, turnF, nextIf, nextF, walkF, walkAll, hinted, deepenIf, deepenF, enteredF, depthIf, stopIf, polledF, visitF, whole, nodeSearch}
-use Rattle.search.proofs.Asked.{extend-most, extend-same, enter-stays, deep-enough, hint-among}
+use Rattle.visits.specs.Reach.{Reach, need}
+use Rattle.visits.specs.Search.{Visit, captureOf, widenIf, widenF, againIf, againF, reducedF, judged, judgedFirst, futileIf, turnIf, turnF, nextIf, nextF, walkF, walkAll, hinted, deepenIf, deepenF, enteredF, depthIf, stopIf, polledF, visitF, whole, nodeSearch}
+use Rattle.visits.proofs.Asked.{extend-most, extend-same, enter-stays, deep-enough, hint-among, enough}
 
 -- of every accepted tree, from every state, table and history, at every node, side, window, depth and ply: the same answer, words and entries
 abbrev pub VisitFuel : Type 0
@@ -175,10 +175,6 @@ visit-fuel t set ok (suc k) (suc m) s words hist a lt j i =
     let p = pollOf (set .limit) s in
     stop-same t set ok (need t (a .node) (a .depth)) (visitF k t set) (visitF m t set)
     (λ s′ words′ hist′ b in-tree less. visit-fuel t set ok k m s′ words′ hist′ b in-tree (omega arith) (omega arith)) (p .stop) (suc k) (suc m) p words hist a lt refl j i
-
--- the fuel of the whole tree is enough for any visit
-pub enough : (t : List ℕ) (a : Args) → Reach t a → need t (a .node) (a .depth) < whole t
-enough t a r = omega (arith, r .depth-most)
 
 pub is-node-search : IsNodeSearch
 is-node-search t set ok k s words hist a r more = visit-fuel t set ok k (whole t) s words hist a (r .in-tree) more (enough t a r)

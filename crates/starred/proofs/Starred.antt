@@ -31,7 +31,7 @@ use Rattle.captures.specs.Captures as captures
 use Rattle.enter.specs.Enter.{hintPlace}
 use Rattle.enter.specs.Enter as enter
 use Rattle.leave.specs.Finish.{gameEnd, endIf, finishIf}
-use Rattle.search.specs.Search as search
+use Rattle.visits.specs.Search as search
 use Rattle.root_steps.specs.Step as root
 use Rattle.root_steps.specs.Step.{freshStats, mateOf, matedOf, placeRoot, scoreIf, keptOf, stoppedIf, firstIf, savedIf}
 use Rattle.root.specs.Root as rootF

@@ -14,8 +14,8 @@ use Rattle.state.specs.declared.Settings.{Settings}
 use Rattle.state.specs.declared.State.{State}
 use Rattle.state.specs.Accepted.{AcceptedBy}
 use Rattle.carry.specs.declared.Args.{Args}
-use Rattle.search.specs.Reach.{Reach, need}
-use Rattle.search.specs.Search.{visitF}
+use Rattle.visits.specs.Reach.{Reach, need}
+use Rattle.visits.specs.Search.{visitF}
 use Rattle.minimax.specs.Minimax.{depthAt, minimaxV, minimax}
 use Rattle.minimax.proofs.Fuel.{minimax-is}
 use Rattle.truth.specs.Demand3.{Tells3, InRange, Windowed, Demand3}

@@ -25,9 +25,9 @@ use Rattle.turn.specs.Window.{againOf, insideOf, raiseIf, judgeOf}
 use Rattle.turn.specs.Prune.{futileOf, lateOf, reductionIf}
 use Rattle.leave.specs.Cutoff.{cutoffOf}
 use Rattle.leave.specs.Finish.{storedOf, endIf, finishIf}
-use Rattle.search.specs.Reach.{Reach, need}
-use Rattle.search.specs.Search as search
-use Rattle.search.specs.Search.{visitF}
+use Rattle.visits.specs.Reach.{Reach, need}
+use Rattle.visits.specs.Search as search
+use Rattle.visits.specs.Search.{visitF}
 use Rattle.minimax.specs.Minimax.{minimax}
 use Rattle.minimax.proofs.Examples.{plain}
 use Rattle.truth.specs.Demand3.{Tells3, Plain, InRange, Windowed}

@@ -22,7 +22,7 @@ use Rattle.enter.specs.Enter.{extendOf, reverseIf, cutIf, probeOf, drawIf, ente
 use Rattle.turn.specs.Window.{countedOf, raiseIf, judgeOf}
 use Rattle.leave.specs.Cutoff.{cutoffOf}
 use Rattle.leave.specs.Finish.{storedOf, endIf, finishIf}
-use Rattle.search.specs.Search.{Visit, widenIf, againIf, reducedF, futileIf, turnIf, nextIf, walkF, deepenIf, enteredF, depthIf, stopIf, visitF}
+use Rattle.visits.specs.Search.{Visit, widenIf, againIf, reducedF, futileIf, turnIf, nextIf, walkF, deepenIf, enteredF, depthIf, stopIf, visitF}
 use Rattle.truth.proofs.Closed.{Closed, seen-q, keep-q}
 use Rattle.truth.proofs.KeepsCaptures.{captures-q}
 

@@ -9,9 +9,9 @@ use Rattle.state.specs.declared.Out.{Out}
 use Rattle.state.specs.Accepted.{AcceptedBy}
 use Rattle.carry.specs.declared.Args.{Args}
 use Rattle.carry.specs.Carry.{With}
-use Rattle.search.specs.Reach.{Reach}
-use Rattle.search.specs.Search.{whole, nodeSearch}
-use Rattle.search.proofs.Fuel.{enough}
+use Rattle.visits.specs.Reach.{Reach}
+use Rattle.visits.specs.Search.{whole, nodeSearch}
+use Rattle.visits.proofs.Asked.{enough}
 use Rattle.truth.specs.Demand3.{Told}
 use Rattle.truth.proofs.Demand3.{demand3}
 

@@ -32,7 +32,7 @@ use Rattle.turn.specs.Window.{countedOf, fullOf, firstBest, againOf, insideOf, 
 use Rattle.turn.specs.Prune.{futileOf, lateOf, reductionIf}
 use Rattle.leave.specs.Cutoff.{cutoffOf}
 use Rattle.leave.specs.Finish.{storedOf, endIf, finishIf, finishOf}
-use Rattle.search.specs.Search.{Visit, captureOf, widenIf, againIf, reducedF, judged, futileIf, turnIf, nextIf, nextF, walkF, deepenIf, enteredF, depthIf, stopIf, visitF}
+use Rattle.visits.specs.Search.{Visit, captureOf, widenIf, againIf, reducedF, judged, futileIf, turnIf, nextIf, nextF, walkF, deepenIf, enteredF, depthIf, stopIf, visitF}
 use Rattle.minimax.specs.Minimax.{childAt, greatest, none, checked, endOf, ofChildren, ofDraw, ofDepth, depthAt, minimaxV}
 use Rattle.truth.proofs.Closed.{Stopped, stays, back}
 use Rattle.truth.proofs.Keeps as keeps

@@ -11,8 +11,8 @@ use Rattle.state.specs.declared.State.{State}
 use Rattle.state.specs.declared.Out.{Out}
 use Rattle.state.specs.Accepted.{AcceptedBy}
 use Rattle.carry.specs.declared.Args.{Args}
-use Rattle.search.specs.Reach.{Reach, need}
-use Rattle.search.specs.Search.{visitF}
+use Rattle.visits.specs.Reach.{Reach, need}
+use Rattle.visits.specs.Search.{visitF}
 use Rattle.minimax.specs.Minimax.{minimax}
 
 -- what a score found between alpha and beta says of a value: strictly inside it is that value, at or below alpha it is at least that value,

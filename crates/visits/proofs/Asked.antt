@@ -30,7 +30,8 @@ use Rattle.carry.specs.declared.Entered.the-variants.{Answer, Moves}
 use Rattle.enter.specs.Enter.{hintPlace, extended, extendOf, hereOf, locOf, reverseFutile, reverseIf, cutIf, consulted, fullWindow, probeOf, drawIf, enterOf, deepensOf, innerOf}
 use Rattle.turn.specs.Window.{fullOf, nullOf}
 use Rattle.turn.specs.Prune.{reductionIf, reductionAt, lateOf}
-use Rattle.search.specs.Reach.{Ready, Reach, Inside}
+use Rattle.visits.specs.Reach.{Ready, Reach, Inside, need}
+use Rattle.visits.specs.Search.{whole}
 
 -- lent memory keeps its size
 pub still-ready : (set : Settings) (t words words′ : List ℕ) (hist hist′ : List ℤ) → Ready set t words hist → length words′ ≡ length words → length hist′ ≡ length hist → Ready set t words′ hist′
@@ -150,3 +151,7 @@ reduction-if false t h c i = omega arith
 
 pub reduction-most : (t : List ℕ) (set : Settings) (h : Here) (c i : ℕ) → reductionAt t set h c i ≤ h .depth - 1
 reduction-most t set h c i = reduction-if (lateOf t set h c i) t h c i
+
+-- the fuel of the whole tree is enough for any visit
+pub enough : (t : List ℕ) (a : Args) → Reach t a → need t (a .node) (a .depth) < whole t
+enough t a r = omega (arith, r .depth-most)

@@ -1,4 +1,3 @@
 pub mod Turns
 pub mod Visits
 pub mod Asked
-pub mod Fuel

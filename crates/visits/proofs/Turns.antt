@@ -19,7 +19,7 @@ use Rattle.carry.specs.Carry.{With, with}
 use Rattle.turn.specs.Window.{unfinished, countedOf, fullOf, nullOf, firstBest, againOf, insideOf, judgeOf}
 use Rattle.turn.specs.Prune.{futileOf, reductionAt}
 use Rattle.leave.specs.Cutoff.{cutoffOf}
-use Rattle.search.specs.Search.{Visit, widenIf, widenF, againIf, againF, reducedF, judged, judgedFirst, futileIf, turnIf, turnF, nextIf, nextF, walkF}
+use Rattle.visits.specs.Search.{Visit, widenIf, widenF, againIf, againF, reducedF, judged, judgedFirst, futileIf, turnIf, turnF, nextIf, nextF, walkF}
 
 -- the full window again
 module _ (v : Visit) (h : Here) (l : Loc) (c : ℕ) (r : With Out) where

@@ -22,7 +22,7 @@ use Rattle.carry.specs.declared.Entered.the-variants.{Answer, Moves}
 use Rattle.carry.specs.Carry.{With, with, beside}
 use Rattle.enter.specs.Enter.{extendOf, enterOf, deepensOf, innerOf, hintedOf}
 use Rattle.leave.specs.Finish.{finishOf}
-use Rattle.search.specs.Search.{Visit, captureOf, walkAll, hinted, deepenIf, deepenF, enteredF, depthIf, depthF, stopIf, polledF, visitF}
+use Rattle.visits.specs.Search.{Visit, captureOf, walkAll, hinted, deepenIf, deepenF, enteredF, depthIf, depthF, stopIf, polledF, visitF}
 
 -- inner deepening
 module _ (v : Visit) (t : List ℕ) (set : Settings) (h : Here) (l : Loc) (words : List ℕ) (hist : List ℤ) where

@@ -5,8 +5,8 @@ use native.Mathlib.Omega.{arith}
 use borrow.Author.Needs.{needs}
 use lib.ListN.{length}
 use Rattle.carry.specs.Carry.{with}
-use Rattle.search.specs.Search.{nodeSearch}
-use Rattle.search.proofs.Asked.{still-ready}
+use Rattle.visits.specs.Search.{nodeSearch}
+use Rattle.visits.proofs.Asked.{still-ready}
 use Rattle.root.specs.Root.{depthsF}
 use Rattle.root.proofs.Depths.{depths-mate, depths-over, depths-next, depths-end}
 use Rattle.root.proofs.deepening.Statement.{statement}

@@ -4,7 +4,7 @@ use native.Mathlib.Omega.{arith}
 use Rattle.state.specs.State.{Over}
 use Rattle.moves.proofs.Kids.{blocked}
 use Rattle.carry.specs.Carry.{with, beside}
-use Rattle.search.specs.Search.{nodeSearch}
+use Rattle.visits.specs.Search.{nodeSearch}
 use Rattle.root_steps.specs.declared.Depths.{Depths}
 use Rattle.root.proofs.Asked.{root-in}
 use Rattle.root.proofs.Depths.{depth-is}

@@ -3,9 +3,9 @@ use mathlib.Core.Path.{sym, subst, ap, _∙_}
 use borrow.Author.Needs.{needs}
 use Rattle.moves.proofs.Kids.{blocked}
 use Rattle.carry.specs.Carry.{with}
-use Rattle.search.specs.Reach.{Reach}
-use Rattle.search.specs.Search.{whole, nodeSearch}
-use Rattle.search.proofs.Fuel.{enough}
+use Rattle.visits.specs.Reach.{Reach}
+use Rattle.visits.specs.Search.{whole, nodeSearch}
+use Rattle.visits.proofs.Asked.{enough}
 use Rattle.root_steps.specs.declared.Walked.{Walked}
 use Rattle.root.proofs.Asked.{to-move}
 use Rattle.root.proofs.Walks.{turn-is}

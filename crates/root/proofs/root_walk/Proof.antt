@@ -10,8 +10,8 @@ use Rattle.moves.specs.Kid.{Kid}
 use Rattle.moves.specs.Order.{childOf}
 use Rattle.moves.proofs.Kids.{blocked, laid}
 use Rattle.carry.specs.Carry.{with}
-use Rattle.search.specs.Search.{nodeSearch}
-use Rattle.search.proofs.Asked.{still-ready}
+use Rattle.visits.specs.Search.{nodeSearch}
+use Rattle.visits.proofs.Asked.{still-ready}
 use Rattle.root.specs.Root.{turnF, walkF, walkAll}
 use Rattle.root.proofs.Asked.{root-in, root-kid}
 use Rattle.root.proofs.Walks.{walk-stop, walk-next, walk-over, walk-whole}

@@ -1,7 +1,7 @@
 -- `root::search_root` meets its contract: history zeroed, then the depths. Assumes nothing.
 use mathlib.Core.Path.{refl, _∙_}
 use borrow.Author.Needs.{needs}
-use Rattle.search.proofs.Asked.{still-ready}
+use Rattle.visits.proofs.Asked.{still-ready}
 use Rattle.root.proofs.Depths.{root-is}
 use Rattle.root.proofs.search_root.Statement.{statement}
 use Rattle.root.proofs.search_root.Tie as tie

@@ -25,11 +25,11 @@ use Rattle.carry.specs.declared.Turn.{Turn}
 use Rattle.carry.specs.Carry.{with, beside}
 use Rattle.leave.specs.Cutoff.{cutoffOf}
 use Rattle.turn.specs.Window.{judgeOf}
-use Rattle.search.specs.Reach.{Reach, Inside, need}
-use Rattle.search.specs.Search.{visitF, walkF, turnF}
-use Rattle.search.proofs.Turns.{widen-yes, widen-no, reduced-again, reduced-once, turn-first, turn-futile, turn-reduced, walk-next, walk-cut, walk-over}
-use Rattle.search.proofs.Visits.{deepen-yes, deepen-no, visit-stop, visit-captures, visit-answer, visit-moves}
-use Rattle.search.proofs.Asked.{Same, Stays, still-ready, same-after, most-after, enter-stays, inside, to-captures, deep-enough, to-inner, to-full, to-null, kid-at, reduction-most}
+use Rattle.visits.specs.Reach.{Reach, Inside, need}
+use Rattle.visits.specs.Search.{visitF, walkF, turnF}
+use Rattle.visits.proofs.Turns.{widen-yes, widen-no, reduced-again, reduced-once, turn-first, turn-futile, turn-reduced, walk-next, walk-cut, walk-over}
+use Rattle.visits.proofs.Visits.{deepen-yes, deepen-no, visit-stop, visit-captures, visit-answer, visit-moves}
+use Rattle.visits.proofs.Asked.{Same, Stays, still-ready, same-after, most-after, enter-stays, inside, to-captures, deep-enough, to-inner, to-full, to-null, kid-at, reduction-most}
 use borrow.Fn.Kinds.{In}
 use borrow.Fn.PlainCycle.{Measures, is, falls, and}
 use Rattle.search.proofs.deepen.Reads as deepen

@@ -10,9 +10,9 @@ use Rattle.carry.specs.Carry.{with}
 use Rattle.carry.specs.declared.Args.{Args}
 use Rattle.state.specs.declared.State.{State}
 use Rattle.moves.proofs.Kids.{laid}
-use Rattle.search.specs.Search.{whole, nodeSearch}
-use Rattle.search.specs.Reach.{Reach}
-use Rattle.search.proofs.Fuel.{enough}
+use Rattle.visits.specs.Search.{whole, nodeSearch}
+use Rattle.visits.specs.Reach.{Reach}
+use Rattle.visits.proofs.Asked.{enough}
 use Rattle.truth.specs.Demand3.{InRange, Windowed, Told}
 use Rattle.truth.proofs.Told.{told}
 use Rattle.refusals.specs.Rows.{settingsRight, nodeRight, windowRight, depthRight, plyRight}
