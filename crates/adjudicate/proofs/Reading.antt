@@ -13,16 +13,16 @@ use Rattle.io.specs.Counts.{clamp_len}
 use Rattle.adjudicate.specs.declared.Step.TheVariants.{More, End, Failed}
 use Rattle.adjudicate.specs.Input.{step_of}
 
-pub step-more : (z : ℤ) (n : ℕ) → lt_z (pos 0) z ≡ true → step_of z n ≡ More (clamp_len z n)
+pub step_more : (z : ℤ) (n : ℕ) → lt_z (pos 0) z ≡ true → step_of z n ≡ More (clamp_len z n)
 unfolding step_of
-step-more (pos zero) n e = let z : ◌≡◌ {A = ℕ} 0 1 = cc in absurd (omega arith)
-step-more (pos (suc k)) n e = refl
-step-more (negsuc k) n e = let z : ◌≡◌ {A = ℕ} 0 1 = cc in absurd (omega arith)
+step_more (pos zero) n e = let z : ◌≡◌ {A = ℕ} 0 1 = cc in absurd (omega arith)
+step_more (pos (suc k)) n e = refl
+step_more (negsuc k) n e = let z : ◌≡◌ {A = ℕ} 0 1 = cc in absurd (omega arith)
 
-pub step-failed : (z : ℤ) (n : ℕ) → lt_z z (pos 0) ≡ true → step_of z n ≡ Failed
+pub step_failed : (z : ℤ) (n : ℕ) → lt_z z (pos 0) ≡ true → step_of z n ≡ Failed
 unfolding step_of
-step-failed (pos k) n e = let z : ◌≡◌ {A = ℕ} 0 1 = cc (le-ltb k 0 (omega arith)) in absurd (omega arith)
-step-failed (negsuc k) n e = refl
+step_failed (pos k) n e = let z : ◌≡◌ {A = ℕ} 0 1 = cc (le-ltb k 0 (omega arith)) in absurd (omega arith)
+step_failed (negsuc k) n e = refl
 
 pub step_end : (z : ℤ) (n : ℕ) → lt_z (pos 0) z ≡ false → lt_z z (pos 0) ≡ false → step_of z n ≡ End
 unfolding step_of
@@ -37,9 +37,9 @@ takes (pos (suc k)) n m e l = let q : min (suc k) n ≡ m = cc in (omega arith, 
 takes (negsuc k) n m e l = let z : ◌≡◌ {A = ℕ} 0 1 = cc in absurd (omega arith)
 
 -- a read into the rest of a buffer takes a byte at least, and no more than there is room for
-pub step-takes : (z : ℤ) (buf : List ℕ) (done m : ℕ) → step_of z (length (take (length buf - done) (drop done buf))) ≡ More m → done < length buf
+pub step_takes : (z : ℤ) (buf : List ℕ) (done m : ℕ) → step_of z (length (take (length buf - done) (drop done buf))) ≡ More m → done < length buf
     → (0 < m) × (done + m ≤ length buf)
-step-takes z buf done m e l =
+step_takes z buf done m e l =
     let room : length (take (length buf - done) (drop done buf)) ≡ length buf - done = length-take-le (length buf - done) (drop done buf) (simp length-drop (omega arith)) in
     let t = takes z (length (take (length buf - done) (drop done buf))) m e (omega (arith, room)) in
     (t.0, omega (arith, room, t.1))

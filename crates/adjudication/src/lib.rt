@@ -1,8 +1,8 @@
 // Functions that C or Rust can link: `rt staticlib adjudication` writes target/staticlib/libadjudication.a.
 ghost use Rattle.std.specs.Prelude.{◌≡◌, ◌<◌};
-ghost use Rattle.tree.specs.Refusal.{treeRefusal};
+ghost use Rattle.tree.specs.Refusal.{tree_refusal};
 ghost use Rattle.table.specs.Stats.{zeroed};
-ghost use Rattle.adjudication.specs.Calls.{bit_of, settingsOf, told, called};
+ghost use Rattle.adjudication.specs.Calls.{bit_of, settings_of, told, called};
 
 use desk::root_search;
 use state::Settings;
@@ -11,7 +11,7 @@ use table::Stats;
 // The tree check. No setting is asked to be in its range: the contract holds for any two.
 #[unsafe(no_mangle)]
 pub extern "C" fn desk_tree_check(tree: &[u8], inf: i16, max_ply: u16) -> u8
-    ensures { result ≡ treeRefusal inf max_ply tree.now }
+    ensures { result ≡ tree_refusal inf max_ply tree.now }
 {
     tree::check(tree, inf, max_ply)
 }
@@ -26,7 +26,7 @@ fn bit(bits: u8, unit: u8) -> bool
 
 // The program's settings, but for the switches, a bit each from the lowest, and the limit.
 fn settings(switches: u8, limit: u64) -> Settings
-    ensures { result ≡ settingsOf switches limit }
+    ensures { result ≡ settings_of switches limit }
 {
     Settings {
         inf: 30000,

@@ -8,22 +8,22 @@ use borrow.Author.Tests.{le-leb, lt-leb}
 use Rattle.state.specs.declared.Settings.{Settings}
 use Rattle.capture_steps.specs.declared.Capture.{Capture}
 use Rattle.capture_steps.specs.declared.Pat.{Pat}
-use Rattle.capture_steps.specs.Step.{deltaPrunes, patIf, deltaIf, plyIf, standPat}
+use Rattle.capture_steps.specs.Step.{delta_prunes, pat_if, delta_if, ply_if, stand_pat}
 
 module _ (set : Settings) (eval : ℤ) (a : Capture) where
-  pub pat-end : set.max_ply ≤ a.ply → record { done = true; alpha = eval } ≡ standPat set eval a
-  unfolding plyIf
-  pat-end l = rw (le-leb set.max_ply a.ply l)
+  pub pat_end : set.max_ply ≤ a.ply → record { done = true; alpha = eval } ≡ stand_pat set eval a
+  unfolding ply_if
+  pat_end l = rw (le-leb set.max_ply a.ply l)
 
   module _ (short : a.ply < set.max_ply) where
-    pub pat-delta : deltaPrunes set eval a ≡ true → record { done = true; alpha = a.alpha } ≡ standPat set eval a
-    unfolding plyIf deltaIf
-    pat-delta d = rw (lt-leb set.max_ply a.ply short, d)
+    pub pat_delta : delta_prunes set eval a ≡ true → record { done = true; alpha = a.alpha } ≡ stand_pat set eval a
+    unfolding ply_if delta_if
+    pat_delta d = rw (lt-leb set.max_ply a.ply short, d)
 
-    pub pat-above : deltaPrunes set eval a ≡ false → lt_z a.alpha eval ≡ true → record { done = le_z a.beta eval; alpha = eval } ≡ standPat set eval a
-    unfolding plyIf deltaIf patIf
-    pat-above d t = rw (lt-leb set.max_ply a.ply short, d, t)
+    pub pat_above : delta_prunes set eval a ≡ false → lt_z a.alpha eval ≡ true → record { done = le_z a.beta eval; alpha = eval } ≡ stand_pat set eval a
+    unfolding ply_if delta_if pat_if
+    pat_above d t = rw (lt-leb set.max_ply a.ply short, d, t)
 
-    pub pat-below : deltaPrunes set eval a ≡ false → lt_z a.alpha eval ≡ false → record { done = false; alpha = a.alpha } ≡ standPat set eval a
-    unfolding plyIf deltaIf patIf
-    pat-below d t = rw (lt-leb set.max_ply a.ply short, d, t)
+    pub pat_below : delta_prunes set eval a ≡ false → lt_z a.alpha eval ≡ false → record { done = false; alpha = a.alpha } ≡ stand_pat set eval a
+    unfolding ply_if delta_if pat_if
+    pat_below d t = rw (lt-leb set.max_ply a.ply short, d, t)

@@ -4,7 +4,7 @@ use Rattle.std.specs.Int.Signed.{lt_z, le_z}
 use Rattle.score.specs.Wrap.{neg16, sub16}
 use Rattle.transposition.specs.declared.Bound.{Bound}
 use Rattle.transposition.specs.declared.Bound.TheVariants.{Exact, Lower, Upper}
-use Rattle.record.specs.Node.{first_of, count_of, evalOf, move_of, hashOf, isQuiet}
+use Rattle.record.specs.Node.{first_of, count_of, eval_of, move_of, hash_of, is_quiet}
 use Rattle.state.specs.declared.Settings.{Settings}
 use Rattle.state.specs.declared.State.{State}
 use Rattle.state.specs.declared.Out.{Out}
@@ -12,9 +12,9 @@ use Rattle.state.specs.declared.Seen.{Seen}
 use Rattle.state.specs.declared.Consulted.{Consulted}
 use Rattle.moves.specs.declared.Place.{Place}
 use Rattle.moves.specs.declared.Place.TheVariants.{At, Nowhere}
-use Rattle.state.specs.State.{Over, over, pollOf, countNode, answer_of, seenOf, keepOf}
-use Rattle.state.specs.Consult.{consultOf}
-use Rattle.moves.specs.Order.{placeOf}
+use Rattle.state.specs.State.{Over, over, poll_of, count_node, answer_of, seen_of, keep_of}
+use Rattle.state.specs.Consult.{consult_of}
+use Rattle.moves.specs.Order.{place_of}
 use Rattle.capture_steps.specs.declared.Capture.{Capture}
 use Rattle.capture_steps.specs.declared.Here.{Here}
 use Rattle.capture_steps.specs.declared.Loc.{Loc}
@@ -28,25 +28,25 @@ abbrev pub depth_of : ℕ → ℤ
 depth_of below = neg_ℤ (pos below)
 
 -- 000: standing pat, "if eval > alpha { if eval >= beta { return eval } alpha = eval }"
-unfoldable pub patIf : Bool → ℤ → Capture → Pat
-patIf true eval a = record { done = le_z a.beta eval; alpha = eval }
-patIf false eval a = record { done = false; alpha = a.alpha }
+unfoldable pub pat_if : Bool → ℤ → Capture → Pat
+pat_if true eval a = record { done = le_z a.beta eval; alpha = eval }
+pat_if false eval a = record { done = false; alpha = a.alpha }
 
 -- 000: delta pruning, "if eval < alpha - DP_MARGIN { return alpha }", DP_MARGIN being 1000; if the switch is on
-unfoldable pub deltaPrunes : Settings → ℤ → Capture → Bool
-deltaPrunes set eval a = set.delta && lt_z eval (sub16 a.alpha (pos 1000))
+unfoldable pub delta_prunes : Settings → ℤ → Capture → Bool
+delta_prunes set eval a = set.delta && lt_z eval (sub16 a.alpha (pos 1000))
 
-unfoldable pub deltaIf : Bool → ℤ → Capture → Pat
-deltaIf true eval a = record { done = true; alpha = a.alpha }
-deltaIf false eval a = patIf (lt_z a.alpha eval) eval a
+unfoldable pub delta_if : Bool → ℤ → Capture → Pat
+delta_if true eval a = record { done = true; alpha = a.alpha }
+delta_if false eval a = pat_if (lt_z a.alpha eval) eval a
 
 -- 000: "if ply >= MAX_PLY { return eval }"
-unfoldable pub plyIf : Bool → Settings → ℤ → Capture → Pat
-plyIf true set eval a = record { done = true; alpha = eval }
-plyIf false set eval a = deltaIf (deltaPrunes set eval a) eval a
+unfoldable pub ply_if : Bool → Settings → ℤ → Capture → Pat
+ply_if true set eval a = record { done = true; alpha = eval }
+ply_if false set eval a = delta_if (delta_prunes set eval a) eval a
 
-abbrev pub standPat : Settings → ℤ → Capture → Pat
-standPat set eval a = plyIf (leb set.max_ply a.ply) set eval a
+abbrev pub stand_pat : Settings → ℤ → Capture → Pat
+stand_pat set eval a = ply_if (leb set.max_ply a.ply) set eval a
 
 -- the walk that the table leaves to be made
 abbrev pub here_of : Capture → ℤ → Consulted → Here
@@ -60,98 +60,98 @@ cut_if true w s a old = Answer (answer_of w.score s)
 cut_if false w s a old = Moves (here_of a old w) (loc_of w s)
 
 abbrev pub consulted : Seen → Capture → ℤ → Consulted
-consulted seen a alpha = consultOf seen.found true (depth_of a.below) alpha a.beta
+consulted seen a alpha = consult_of seen.found true (depth_of a.below) alpha a.beta
 
-abbrev pub judgeSeen : Seen → Capture → ℤ → Entered
-judgeSeen seen a alpha = cut_if (consulted seen a alpha).cut (consulted seen a alpha) seen.state a alpha
+abbrev pub judge_seen : Seen → Capture → ℤ → Entered
+judge_seen seen a alpha = cut_if (consulted seen a alpha).cut (consulted seen a alpha) seen.state a alpha
 
 -- 01, Visits: the table, after standing pat
-abbrev pub probeOf : Settings → List ℕ → List ℕ → State → Capture → ℤ → Entered
-probeOf set t words s a alpha = judgeSeen (seenOf set.table words s (hashOf t a.node)) a alpha
+abbrev pub probe_of : Settings → List ℕ → List ℕ → State → Capture → ℤ → Entered
+probe_of set t words s a alpha = judge_seen (seen_of set.table words s (hash_of t a.node)) a alpha
 
-unfoldable pub pattedIf : Bool → ℤ → Settings → List ℕ → List ℕ → State → Capture → Entered
-pattedIf true alpha set t words s a = Answer (answer_of alpha s)
-pattedIf false alpha set t words s a = probeOf set t words s a alpha
+unfoldable pub patted_if : Bool → ℤ → Settings → List ℕ → List ℕ → State → Capture → Entered
+patted_if true alpha set t words s a = Answer (answer_of alpha s)
+patted_if false alpha set t words s a = probe_of set t words s a alpha
 
 abbrev pub patted : Pat → Settings → List ℕ → List ℕ → State → Capture → Entered
-patted p set t words s a = pattedIf p.done p.alpha set t words s a
+patted p set t words s a = patted_if p.done p.alpha set t words s a
 
 -- 01, Visits: "poll (stopped: 0)"
-unfoldable pub stopIf : Bool → Settings → List ℕ → List ℕ → State → Capture → Entered
-stopIf true set t words s a = Answer (answer_of (pos 0) s)
-stopIf false set t words s a = patted (standPat set (evalOf t a.node) a) set t words s a
+unfoldable pub stop_if : Bool → Settings → List ℕ → List ℕ → State → Capture → Entered
+stop_if true set t words s a = Answer (answer_of (pos 0) s)
+stop_if false set t words s a = patted (stand_pat set (eval_of t a.node) a) set t words s a
 
 -- the steps before the walk
 abbrev pub polled : Settings → List ℕ → List ℕ → State → Capture → Entered
-polled set t words s a = stopIf s.stop set t words s a
+polled set t words s a = stop_if s.stop set t words s a
 
-unfoldable pub enterOf : Settings → List ℕ → List ℕ → State → Capture → Entered
-enterOf set t words s a = polled set t words (pollOf set.limit s) a
+unfoldable pub enter_of : Settings → List ℕ → List ℕ → State → Capture → Entered
+enter_of set t words s a = polled set t words (poll_of set.limit s) a
 
 -- 01, Visits: "in quiescence, a noisy child"; "in quiescence a quiet one, isn't played"
-unfoldable pub noisyIf : Bool → ℕ → Place
-noisyIf true p = Nowhere
-noisyIf false p = At p
+unfoldable pub noisy_if : Bool → ℕ → Place
+noisy_if true p = Nowhere
+noisy_if false p = At p
 
 -- the child at a place is one of n nodes
 abbrev pub PlaceIn : ℕ → ℕ → Place → Type 0
 PlaceIn n first Nowhere = Unit {0}
 PlaceIn n first (At p) = first + p < n
 
-unfoldable pub noisyAt : List ℕ → ℕ → Place → Place
-noisyAt t first Nowhere = Nowhere
-noisyAt t first (At p) = noisyIf (isQuiet t (first + p)) p
+unfoldable pub noisy_at : List ℕ → ℕ → Place → Place
+noisy_at t first Nowhere = Nowhere
+noisy_at t first (At p) = noisy_if (is_quiet t (first + p)) p
 
-unfoldable pub noisyPlace : List ℕ → Here → Loc → Place
-noisyPlace t h l = noisyAt t (first_of t h.node) (placeOf t (first_of t h.node) (count_of t h.node) l.mv)
+unfoldable pub noisy_place : List ℕ → Here → Loc → Place
+noisy_place t h l = noisy_at t (first_of t h.node) (place_of t (first_of t h.node) (count_of t h.node) l.mv)
 
 abbrev pub unfinished : Loc → Turn
 unfinished l = record { done = false; loc = l }
 
 -- 000: "-self.quiescence(-beta, -alpha, depth - 1, ply + 1)"
-abbrev pub downOf : Here → Loc → ℕ → Capture
-downOf h l c = record { node = c; alpha = neg16 h.beta; beta = neg16 l.alpha; below = h.below + 1; ply = h.ply + 1 }
+abbrev pub down_of : Here → Loc → ℕ → Capture
+down_of h l c = record { node = c; alpha = neg16 h.beta; beta = neg16 l.alpha; below = h.below + 1; ply = h.ply + 1 }
 
 -- a cutoff: 000, "self.tt.set(hash, depth, score, m, Bound::Lower); return score"
-abbrev pub cutWith : ℤ → ℕ → Over State → Over Turn
-cutWith x m k = over (record { done = true; loc = record { alpha = x; mv = m; state = k.it } }) k.words
+abbrev pub cut_with : ℤ → ℕ → Over State → Over Turn
+cut_with x m k = over (record { done = true; loc = record { alpha = x; mv = m; state = k.it } }) k.words
 
-unfoldable pub scoreIf : Bool → Settings → List ℕ → List ℕ → Here → ℤ → ℕ → State → Over Turn
-scoreIf true set t words h x m s = over (unfinished (record { alpha = x; mv = m; state = s })) words
-scoreIf false set t words h x m s = cutWith x m (keepOf set.table words s (hashOf t h.node) (depth_of h.below) x m Lower)
+unfoldable pub score_if : Bool → Settings → List ℕ → List ℕ → Here → ℤ → ℕ → State → Over Turn
+score_if true set t words h x m s = over (unfinished (record { alpha = x; mv = m; state = s })) words
+score_if false set t words h x m s = cut_with x m (keep_of set.table words s (hash_of t h.node) (depth_of h.below) x m Lower)
 
 -- 000: "if score > alpha { if score >= beta { .. } alpha = score; best_move = m }"
-unfoldable pub raiseIf : Bool → Settings → List ℕ → List ℕ → Here → Loc → ℕ → ℤ → State → Over Turn
-raiseIf true set t words h l c x s = over (unfinished (record { alpha = l.alpha; mv = l.mv; state = s })) words
-raiseIf false set t words h l c x s = scoreIf (lt_z x h.beta) set t words h x (move_of t c) s
+unfoldable pub raise_if : Bool → Settings → List ℕ → List ℕ → Here → Loc → ℕ → ℤ → State → Over Turn
+raise_if true set t words h l c x s = over (unfinished (record { alpha = l.alpha; mv = l.mv; state = s })) words
+raise_if false set t words h l c x s = score_if (lt_z x h.beta) set t words h x (move_of t c) s
 
-unfoldable pub judgeOf : Settings → List ℕ → List ℕ → Here → Loc → ℕ → Out → Over Turn
-judgeOf set t words h l c r = raiseIf (le_z (neg16 r.score) l.alpha) set t words h l c (neg16 r.score) r.state
+unfoldable pub judge_of : Settings → List ℕ → List ℕ → Here → Loc → ℕ → Out → Over Turn
+judge_of set t words h l c r = raise_if (le_z (neg16 r.score) l.alpha) set t words h l c (neg16 r.score) r.state
 
 -- 01, Visits: "In captures alpha at the end is stored, Exact if it exceeds the alpha left by standing pat before the table was read."
-unfoldable pub boundIf : Bool → Bound
-boundIf true = Exact
-boundIf false = Upper
+unfoldable pub bound_if : Bool → Bound
+bound_if true = Exact
+bound_if false = Upper
 
-abbrev pub boundOf : Here → Loc → Bound
-boundOf h l = boundIf (lt_z h.old l.alpha)
+abbrev pub bound_of : Here → Loc → Bound
+bound_of h l = bound_if (lt_z h.old l.alpha)
 
-abbrev pub keptWith : ℤ → Over State → Over Out
-keptWith x k = over (answer_of x k.it) k.words
+abbrev pub kept_with : ℤ → Over State → Over Out
+kept_with x k = over (answer_of x k.it) k.words
 
 -- 000: "if !best_move.is_null()"
-unfoldable pub storeIf : Bool → List ℕ → Settings → Here → Loc → List ℕ → Over Out
-storeIf true t set h l words = over (answer_of l.alpha l.state) words
-storeIf false t set h l words =
-    keptWith l.alpha (keepOf set.table words l.state (hashOf t h.node) (depth_of h.below) l.alpha l.mv (boundOf h l))
+unfoldable pub store_if : Bool → List ℕ → Settings → Here → Loc → List ℕ → Over Out
+store_if true t set h l words = over (answer_of l.alpha l.state) words
+store_if false t set h l words =
+    kept_with l.alpha (keep_of set.table words l.state (hash_of t h.node) (depth_of h.below) l.alpha l.mv (bound_of h l))
 
-abbrev pub storedOf : List ℕ → Settings → Here → Loc → List ℕ → Over Out
-storedOf t set h l words = storeIf (eqb l.mv 0) t set h l words
+abbrev pub stored_of : List ℕ → Settings → Here → Loc → List ℕ → Over Out
+stored_of t set h l words = store_if (eqb l.mv 0) t set h l words
 
 -- a cutoff's score is the answer, and was stored
-unfoldable pub finishIf : Bool → List ℕ → Settings → Here → Loc → List ℕ → Over Out
-finishIf true t set h l words = over (answer_of l.alpha l.state) words
-finishIf false t set h l words = storedOf t set h l words
+unfoldable pub finish_if : Bool → List ℕ → Settings → Here → Loc → List ℕ → Over Out
+finish_if true t set h l words = over (answer_of l.alpha l.state) words
+finish_if false t set h l words = stored_of t set h l words
 
-abbrev pub finishOf : List ℕ → Settings → Here → Over Turn → Over Out
-finishOf t set h w = finishIf w.it.done t set h w.it.loc w.words
+abbrev pub finish_of : List ℕ → Settings → Here → Over Turn → Over Out
+finish_of t set h w = finish_if w.it.done t set h w.it.loc w.words

@@ -1,9 +1,9 @@
 // The steps of a capture visit that visit no child.
 ghost use Rattle.std.specs.Prelude.{◌≡◌, ◌+◌, ◌≤◌, ◌<◌, ◌^◌, length};
-ghost use Rattle.tree.specs.Blocks.{Blocked, nodesOf};
+ghost use Rattle.tree.specs.Blocks.{Blocked, nodes_of};
 ghost use Rattle.tree.specs.Layout.{Laid};
-ghost use Rattle.state.specs.State.{over, countNode};
-ghost use Rattle.capture_steps.specs.Step.{depth_of, deltaPrunes, standPat, probeOf, enterOf, noisyPlace, noisyAt, PlaceIn, unfinished, downOf, judgeOf, boundOf, storedOf, finishIf};
+ghost use Rattle.state.specs.State.{over, count_node};
+ghost use Rattle.capture_steps.specs.Step.{depth_of, delta_prunes, stand_pat, probe_of, enter_of, noisy_place, noisy_at, PlaceIn, unfinished, down_of, judge_of, bound_of, stored_of, finish_if};
 
 use moves::Place;
 use record::node;
@@ -70,7 +70,7 @@ fn depth_of(below: u8) -> i8
 
 // Delta pruning: the evaluation is over 1000 below alpha.
 fn delta_prunes(set: Settings, eval: i16, a: Capture) -> bool
-    ensures { result ≡ deltaPrunes set eval a }
+    ensures { result ≡ delta_prunes set eval a }
 {
     if set.delta {
         return eval < sub16(a.alpha, 1000);
@@ -80,7 +80,7 @@ fn delta_prunes(set: Settings, eval: i16, a: Capture) -> bool
 
 // The ply's end, delta pruning, standing pat.
 fn stand_pat(set: Settings, eval: i16, a: Capture) -> Pat
-    ensures { result ≡ standPat set eval a }
+    ensures { result ≡ stand_pat set eval a }
 {
     if set.max_ply as usize <= a.ply {
         return Pat {
@@ -109,10 +109,10 @@ fn stand_pat(set: Settings, eval: i16, a: Capture) -> Pat
 // The table, after standing pat left an alpha.
 fn probe(tree: &[u8], words: &[u64], set: Settings, st: State, a: Capture, pat: Pat) -> Entered
     requires blocked { Blocked tree.now }
-    requires node_bound { a.node < nodesOf tree.now }
+    requires node_bound { a.node < nodes_of tree.now }
     requires below_bound { a.below ≤ 127 }
     requires in_bounds { 2 ≤ length words.now }
-    ensures { result ≡ probeOf set tree.now words.now st a pat.alpha }
+    ensures { result ≡ probe_of set tree.now words.now st a pat.alpha }
 {
     let k = a.node;
     let seen = st.look(words, set.table, node::hash(tree, k));
@@ -140,10 +140,10 @@ fn probe(tree: &[u8], words: &[u64], set: Settings, st: State, a: Capture, pat: 
 // Poll, the ply's end, delta pruning, standing pat, the table.
 pub fn enter(tree: &[u8], words: &[u64], set: Settings, st: State, a: Capture) -> Entered
     requires blocked { Blocked tree.now }
-    requires node_bound { a.node < nodesOf tree.now }
+    requires node_bound { a.node < nodes_of tree.now }
     requires below_bound { a.below ≤ 127 }
     requires in_bounds { 2 ≤ length words.now }
-    ensures { result ≡ enterOf set tree.now words.now st a }
+    ensures { result ≡ enter_of set tree.now words.now st a }
 {
     let s = st.poll(set.limit);
     if s.stop {
@@ -160,8 +160,8 @@ pub fn enter(tree: &[u8], words: &[u64], set: Settings, st: State, a: Capture) -
 // A place, if the child there is noisy.
 fn noisy(tree: &[u8], first: usize, place: Place) -> Place
     requires blocked { Blocked tree.now }
-    requires place_in { PlaceIn (nodesOf tree.now) first place }
-    ensures { result ≡ noisyAt tree.now first place }
+    requires place_in { PlaceIn (nodes_of tree.now) first place }
+    ensures { result ≡ noisy_at tree.now first place }
 {
     match place {
         Place::At(p) => {
@@ -177,8 +177,8 @@ fn noisy(tree: &[u8], first: usize, place: Place) -> Place
 // The hint's place, if it is a noisy child.
 pub fn noisy_place(tree: &[u8], here: Here, loc: Loc) -> Place
     requires laid { Laid tree.now }
-    requires node_bound { here.node < nodesOf tree.now }
-    ensures { result ≡ noisyPlace tree.now here loc }
+    requires node_bound { here.node < nodes_of tree.now }
+    ensures { result ≡ noisy_place tree.now here loc }
 {
     let k = here.node;
     let first = node::first_child(tree, k);
@@ -197,7 +197,7 @@ pub fn unfinished(loc: Loc) -> Turn
 }
 
 pub fn counted(loc: Loc) -> State
-    ensures { result ≡ countNode loc.state }
+    ensures { result ≡ count_node loc.state }
 {
     let s = loc.state;
     s.count_node()
@@ -207,7 +207,7 @@ pub fn counted(loc: Loc) -> State
 pub fn down(here: Here, loc: Loc, c: usize) -> Capture
     requires below_bound { here.below + 1 < 256 }
     requires ply_bound { here.ply + 1 < 2 ^ 64 }
-    ensures { result ≡ downOf here loc c }
+    ensures { result ≡ down_of here loc c }
 {
     Capture {
         node: c,
@@ -229,10 +229,10 @@ pub fn judge(
     r: Out,
 ) -> Turn
     requires blocked { Blocked tree.now }
-    requires node_bound { here.node < nodesOf tree.now }
-    requires c_bound { c < nodesOf tree.now }
+    requires node_bound { here.node < nodes_of tree.now }
+    requires c_bound { c < nodes_of tree.now }
     requires in_bounds { (2 ≤ length words.old) × (here.below ≤ 127) }
-    ensures { over result words.new ≡ judgeOf set tree.now words.old here loc c r }
+    ensures { over result words.new ≡ judge_of set tree.now words.old here loc c r }
 {
     let score = neg16(r.score);
     let s = r.state;
@@ -272,7 +272,7 @@ pub fn judge(
 
 // Exact if alpha exceeds the alpha left by standing pat, else Upper.
 fn bound_of(here: Here, loc: Loc) -> Bound
-    ensures { result ≡ boundOf here loc }
+    ensures { result ≡ bound_of here loc }
 {
     if here.old < loc.alpha {
         Bound::Exact
@@ -284,9 +284,9 @@ fn bound_of(here: Here, loc: Loc) -> Bound
 // Alpha is stored, where there is a move to store with it.
 fn store_alpha(tree: &[u8], words: &mut [u64], set: Settings, here: Here, loc: Loc) -> Out
     requires blocked { Blocked tree.now }
-    requires node_bound { here.node < nodesOf tree.now }
+    requires node_bound { here.node < nodes_of tree.now }
     requires in_bounds { (2 ≤ length words.old) × (here.below ≤ 127) }
-    ensures { over result words.new ≡ storedOf tree.now set here loc words.old }
+    ensures { over result words.new ≡ stored_of tree.now set here loc words.old }
 {
     let s = loc.state;
     if loc.mv == 0 {
@@ -310,9 +310,9 @@ fn store_alpha(tree: &[u8], words: &mut [u64], set: Settings, here: Here, loc: L
 // The end of a visit: a cutoff's score was stored; else alpha is.
 pub fn finish(tree: &[u8], words: &mut [u64], set: Settings, here: Here, w: Turn) -> Out
     requires blocked { Blocked tree.now }
-    requires node_bound { here.node < nodesOf tree.now }
+    requires node_bound { here.node < nodes_of tree.now }
     requires in_bounds { (2 ≤ length words.old) × (here.below ≤ 127) }
-    ensures { over result words.new ≡ finishIf w.done tree.now set here w.loc words.old }
+    ensures { over result words.new ≡ finish_if w.done tree.now set here w.loc words.old }
 {
     let loc = w.loc;
     if w.done {

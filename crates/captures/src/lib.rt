@@ -1,9 +1,9 @@
 // Captures (000, quiescence): standing pat, the table, then the noisy children, each a capture visit again.
 ghost use Rattle.std.specs.Prelude.{◌≡◌, ℕ, ◌+◌, ◌-◌, ◌≤◌, ◌<◌, length};
-ghost use Rattle.tree.specs.Blocks.{nodesOf};
+ghost use Rattle.tree.specs.Blocks.{nodes_of};
 ghost use Rattle.state.specs.State.{over};
 ghost use Rattle.state.specs.Accepted.{AcceptedBy};
-ghost use Rattle.captures.specs.Captures.{capturesF, walkAll, turnF};
+ghost use Rattle.captures.specs.Captures.{captures_f, walk_all, turn_f};
 ghost use Rattle.captures.specs.Reach.{Reach};
 
 use capture_steps::{Capture, Entered, Here, Loc, Turn};
@@ -15,8 +15,8 @@ pub fn captures(tree: &[u8], words: &mut [u64], set: Settings, st: State, a: Cap
     requires accepted_by { AcceptedBy set tree.now }
     requires reach { Reach tree.now a.node a.below a.ply }
     requires in_bounds { 2 ≤ length words.old }
-    ensures { (k : ℕ) → nodesOf tree.now - a.node < k →
-        over result words.new ≡ capturesF k set tree.now st words.old a }
+    ensures { (k : ℕ) → nodes_of tree.now - a.node < k →
+        over result words.new ≡ captures_f k set tree.now st words.old a }
 {
     let e = capture_steps::enter(tree, words, set, st, a);
     match e {
@@ -34,8 +34,8 @@ fn walk(tree: &[u8], words: &mut [u64], set: Settings, here: Here, loc: Loc) -> 
     requires accepted_by { AcceptedBy set tree.now }
     requires reach { Reach tree.now here.node here.below here.ply }
     requires in_bounds { 2 ≤ length words.old }
-    ensures { (k : ℕ) → nodesOf tree.now - here.node ≤ k →
-        over result words.new ≡ walkAll (capturesF k set tree.now) set tree.now here loc words.old }
+    ensures { (k : ℕ) → nodes_of tree.now - here.node ≤ k →
+        over result words.new ≡ walk_all (captures_f k set tree.now) set tree.now here loc words.old }
 {
     let k = here.node;
     let n = node::child_count(tree, k);
@@ -59,12 +59,12 @@ fn walk(tree: &[u8], words: &mut [u64], set: Settings, here: Here, loc: Loc) -> 
 #[cycle(captures_turn_walk)]
 fn turn(tree: &[u8], words: &mut [u64], set: Settings, here: Here, loc: Loc, c: usize) -> Turn
     requires accepted_by { AcceptedBy set tree.now }
-    requires node_bound { here.node < nodesOf tree.now }
+    requires node_bound { here.node < nodes_of tree.now }
     requires node_lt_c { here.node < c }
     requires reach { Reach tree.now c (here.below + 1) (here.ply + 1) }
     requires in_bounds { 2 ≤ length words.old }
-    ensures { (k : ℕ) → nodesOf tree.now - here.node ≤ k →
-        over result words.new ≡ turnF (capturesF k set tree.now) set tree.now here loc c words.old }
+    ensures { (k : ℕ) → nodes_of tree.now - here.node ≤ k →
+        over result words.new ≡ turn_f (captures_f k set tree.now) set tree.now here loc c words.old }
 {
     if node::is_quiet(tree, c) {
         return capture_steps::unfinished(loc);

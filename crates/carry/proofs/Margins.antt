@@ -10,8 +10,8 @@ module _ (m d : ℕ) (small : d < 32768) (h : m * d < 32768) where
   product : pos m *ℤ to_z w16 d ≡ pos (m * d)
   product = ap (λ (z : ℤ). pos m *ℤ z) (to_z_pos w16 small)
 
-  pub margin-fits : SFits w16 (pos m *ℤ to_z w16 d)
-  margin-fits = subst (SFits w16) (sym product) (record { sfits = h })
+  pub margin_fits : SFits w16 (pos m *ℤ to_z w16 d)
+  margin_fits = subst (SFits w16) (sym product) (record { sfits = h })
 
-  pub margin-is : to_z w16 (of_z w16 (pos m *ℤ to_z w16 d)) ≡ pos (m * d)
-  margin-is = to_z-of_z margin-fits ∙ product
+  pub margin_is : to_z w16 (of_z w16 (pos m *ℤ to_z w16 d)) ≡ pos (m * d)
+  margin_is = to_z-of_z margin_fits ∙ product

@@ -1,41 +1,41 @@
 -- 01's worked line of the clock and the edges of row 10, by computing the definitions. Assumes nothing.
 use mathlib.Core.Path.{refl}
-use Rattle.clock.specs.Answers.{refusedWhen}
-use Rattle.clock.specs.Refusals.{plyOut, nowOut, allocationRefused, pollRefused}
-use Rattle.clock.specs.Ticks.{newOf, remainingOf, start_of, setTimeOf, allocation, allocatedOf, looks, timeUp, look, pollClock, pollOf}
+use Rattle.clock.specs.Answers.{refused_when}
+use Rattle.clock.specs.Refusals.{ply_out, now_out, allocation_refused, poll_refused}
+use Rattle.clock.specs.Ticks.{new_of, remaining_of, start_of, set_time_of, allocation, allocated_of, looks, time_up, look, poll_clock, poll_of}
 use Rattle.clock.specs.Lines.{ClockLine, Edges}
 
-pub clock-line : ClockLine
-unfolding refusedWhen plyOut nowOut allocationRefused pollRefused newOf remainingOf start_of allocation allocatedOf looks timeUp look pollClock pollOf
-clock-line =
+pub clock_line : ClockLine
+unfolding refused_when ply_out now_out allocation_refused poll_refused new_of remaining_of start_of allocation allocated_of looks time_up look poll_clock poll_of
+clock_line =
     record {
       ply1 = refl;
       ply80 = refl;
       ply81 = refl;
       allocated = refl;
-      goesOn = refl;
+      goes_on = refl;
       stops = refl;
-      noLook = refl;
+      no_look = refl;
       look = refl;
     }
 
 pub edges : Edges
-unfolding refusedWhen plyOut nowOut allocationRefused pollRefused newOf remainingOf start_of setTimeOf allocation allocatedOf looks timeUp look pollClock pollOf
+unfolding refused_when ply_out now_out allocation_refused poll_refused new_of remaining_of start_of set_time_of allocation allocated_of looks time_up look poll_clock poll_of
 edges =
     record {
       ply0 = refl;
-      plyLast = refl;
-      plyOver = refl;
-      timeLast = refl;
-      timeOver = refl;
-      countSame = refl;
-      countBelow = refl;
-      nowFirst = refl;
-      nowBefore = refl;
-      nowLast = refl;
-      nowOver = refl;
+      ply_last = refl;
+      ply_over = refl;
+      time_last = refl;
+      time_over = refl;
+      count_same = refl;
+      count_below = refl;
+      now_first = refl;
+      now_before = refl;
+      now_last = refl;
+      now_over = refl;
       level0 = refl;
-      neverStarted = refl;
-      neverPolled = refl;
-      refusedStopped = refl;
+      never_started = refl;
+      never_polled = refl;
+      refused_stopped = refl;
     }

@@ -8,80 +8,80 @@ use Rattle.clock.specs.declared.Ticked.{Ticked}
 use Rattle.clock.specs.declared.Ticked.TheVariants.{Went, Refused}
 use Rattle.clock.specs.declared.Allotted.{Allotted}
 use Rattle.clock.specs.declared.Allotted.TheVariants as Allotted
-use Rattle.clock.specs.Answers.{Answer, refusedWhen, stopped, told, toldPoll, toldTime}
-use Rattle.clock.specs.Refusals.{pollRefused, timeOver}
-use Rattle.clock.specs.Ticks.{newOf, start_of, setTimeOf, allocatedOf, looks, timeUp, look, pollClock, pollOf}
+use Rattle.clock.specs.Answers.{Answer, refused_when, stopped, told, told_poll, told_time}
+use Rattle.clock.specs.Refusals.{poll_refused, time_over}
+use Rattle.clock.specs.Ticks.{new_of, start_of, set_time_of, allocated_of, looks, time_up, look, poll_clock, poll_of}
 use Rattle.clock.specs.Promises.{RefusedExactly, Row10, StopStays, OneResult}
 
 -- whatever the test, an answer that refuses nothing by itself is refused exactly when the test passes
-exactly : (t : Bool) (c : Clock) (a : Answer) → a.refusal ≡ 0 → RefusedExactly t c (refusedWhen t c a)
-unfolding refusedWhen
+exactly : (t : Bool) (c : Clock) (a : Answer) → a.refusal ≡ 0 → RefusedExactly t c (refused_when t c a)
+unfolding refused_when
 exactly t c a e = record { refuses = λ y. rw y; accepts = λ n. rw n e }
 
 pub row10 : Row10
-unfolding newOf start_of setTimeOf allocatedOf pollOf
+unfolding new_of start_of set_time_of allocated_of poll_of
 row10 =
     record {
       new = λ level time. exactly _ _ _ refl;
       start = λ c ply now. exactly _ _ _ refl;
-      setTime = λ c time. exactly _ _ _ refl;
+      set_time = λ c time. exactly _ _ _ refl;
       allocated = λ c. exactly _ _ _ refl;
       poll = λ c nodes now. exactly _ _ _ refl;
     }
 
 -- a clock that is finished is so after a refusal, and after an answer whose clock is
-refused-stays : (t : Bool) (c : Clock) (a : Answer) → c.finished ≡ true → a.clock.finished ≡ true → (refusedWhen t c a).clock.finished ≡ true
-unfolding refusedWhen
-refused-stays true c a e f = e
-refused-stays false c a e f = f
+refused_stays : (t : Bool) (c : Clock) (a : Answer) → c.finished ≡ true → a.clock.finished ≡ true → (refused_when t c a).clock.finished ≡ true
+unfolding refused_when
+refused_stays true c a e f = e
+refused_stays false c a e f = f
 
-poll-stays : (b : Bool) (c : Clock) (nodes now : ℕ) → c.finished ≡ true → (pollClock b c nodes now).finished ≡ true
-unfolding pollClock look
-poll-stays true c nodes now e = or-true (timeUp c now) e
+poll_stays : (b : Bool) (c : Clock) (nodes now : ℕ) → c.finished ≡ true → (poll_clock b c nodes now).finished ≡ true
+unfolding poll_clock look
+poll_stays true c nodes now e = or_true (time_up c now) e
   where
-    or-true : (u : Bool) → c.finished ≡ true → u || c.finished ≡ true
-    or-true true e = refl
-    or-true false e = e
-poll-stays false c nodes now e = e
+    or_true : (u : Bool) → c.finished ≡ true → u || c.finished ≡ true
+    or_true true e = refl
+    or_true false e = e
+poll_stays false c nodes now e = e
 
-told-stopped : (t : Bool) (c d : Clock) → t ≡ false → d.finished ≡ true → (refusedWhen t c (stopped d)).value ≡ 1
-unfolding refusedWhen
-told-stopped t c d n e = rw (n, e)
+told_stopped : (t : Bool) (c d : Clock) → t ≡ false → d.finished ≡ true → (refused_when t c (stopped d)).value ≡ 1
+unfolding refused_when
+told_stopped t c d n e = rw (n, e)
 
-pub stop-stays : (c : Clock) → StopStays c
-unfolding setTimeOf pollOf
-stop-stays c =
+pub stop_stays : (c : Clock) → StopStays c
+unfolding set_time_of poll_of
+stop_stays c =
     record {
       stopped = refl;
-      polled = λ nodes now e. refused-stays (pollRefused c nodes now) c _ e (poll-stays (looks c nodes) c nodes now e);
-      told = λ nodes now e n. told-stopped (pollRefused c nodes now) c _ n (poll-stays (looks c nodes) c nodes now e);
-      timeSet = λ time e. refused-stays (timeOver time) c _ e e;
-      incrementSet = λ increment e. e;
+      polled = λ nodes now e. refused_stays (poll_refused c nodes now) c _ e (poll_stays (looks c nodes) c nodes now e);
+      told = λ nodes now e n. told_stopped (poll_refused c nodes now) c _ n (poll_stays (looks c nodes) c nodes now e);
+      time_set = λ time e. refused_stays (time_over time) c _ e e;
+      increment_set = λ increment e. e;
     }
 
 -- the result that an answer comes from
-abbrev tickedBy : Answer → Ticked
-tickedBy a = cond (eqb a.refusal 0) (Went a.clock) Refused
+abbrev ticked_by : Answer → Ticked
+ticked_by a = cond (eqb a.refusal 0) (Went a.clock) Refused
 
-abbrev allottedBy : Answer → Allotted
-allottedBy a = cond (eqb a.refusal 0) (Allotted.Of a.value) Allotted.Refused
+abbrev allotted_by : Answer → Allotted
+allotted_by a = cond (eqb a.refusal 0) (Allotted.Of a.value) Allotted.Refused
 
-pub told-by : (c : Clock) (r : Ticked) → tickedBy (told c r) ≡ r
-told-by c (Went d) = refl
-told-by c Refused = refl
+pub told_by : (c : Clock) (r : Ticked) → ticked_by (told c r) ≡ r
+told_by c (Went d) = refl
+told_by c Refused = refl
 
-pub poll-by : (c : Clock) (r : Ticked) → tickedBy (toldPoll c r) ≡ r
-poll-by c (Went d) = refl
-poll-by c Refused = refl
+pub poll_by : (c : Clock) (r : Ticked) → ticked_by (told_poll c r) ≡ r
+poll_by c (Went d) = refl
+poll_by c Refused = refl
 
-pub time-by : (c : Clock) (r : Allotted) → allottedBy (toldTime c r) ≡ r
-time-by c (Allotted.Of t) = refl
-time-by c Allotted.Refused = refl
+pub time_by : (c : Clock) (r : Allotted) → allotted_by (told_time c r) ≡ r
+time_by c (Allotted.Of t) = refl
+time_by c Allotted.Refused = refl
 
-pub one-result : (c : Clock) (a : Answer) → OneResult c a
-one-result c a =
+pub one_result : (c : Clock) (a : Answer) → OneResult c a
+one_result c a =
     record {
-      ticked = λ r s p q. sym (told-by c r) ∙ ap tickedBy (p ∙ sym q) ∙ told-by c s;
-      polled = λ r s p q. sym (poll-by c r) ∙ ap tickedBy (p ∙ sym q) ∙ poll-by c s;
-      allotted = λ r s p q. sym (time-by c r) ∙ ap allottedBy (p ∙ sym q) ∙ time-by c s;
+      ticked = λ r s p q. sym (told_by c r) ∙ ap ticked_by (p ∙ sym q) ∙ told_by c s;
+      polled = λ r s p q. sym (poll_by c r) ∙ ap ticked_by (p ∙ sym q) ∙ poll_by c s;
+      allotted = λ r s p q. sym (time_by c r) ∙ ap allotted_by (p ∙ sym q) ∙ time_by c s;
     }

@@ -7,7 +7,7 @@ use native.Mathlib.Omega.{arith}
 use lib.Dec.{ltb}
 use borrow.Author.Tests.{ltb-false, eqb-false}
 use Rattle.clock.specs.declared.Clock.{Clock}
-use Rattle.clock.specs.Refusals.{plyOut, timeOver, countBelow, nowOut, noneRemaining, allocationRefused, pollRefused}
+use Rattle.clock.specs.Refusals.{ply_out, time_over, count_below, now_out, none_remaining, allocation_refused, poll_refused}
 
 -- where neither of two tests passes, each fails
 pub or_left : (a b : Bool) → a || b ≡ false → a ≡ false
@@ -23,40 +23,40 @@ or_right false b e = e
 pub first_passes : {b t : Bool} (u : Bool) → b ≡ t → b ≡ true → b ≡ t || u
 first_passes u e f = rw (← e, f)
 
-pub second-decides : {b t : Bool} (u : Bool) → b ≡ t → b ≡ false → u ≡ t || u
-second-decides u e f = rw (← e, f)
+pub second_decides : {b t : Bool} (u : Bool) → b ≡ t → b ≡ false → u ≡ t || u
+second_decides u e f = rw (← e, f)
 
-pub ply-from : (ply : ℕ) → plyOut ply ≡ false → 1 ≤ ply
-unfolding plyOut
-ply-from ply e = ltb-false _ _ (or_left (ltb ply 1) (ltb 65535 ply) e)
+pub ply_from : (ply : ℕ) → ply_out ply ≡ false → 1 ≤ ply
+unfolding ply_out
+ply_from ply e = ltb-false _ _ (or_left (ltb ply 1) (ltb 65535 ply) e)
 
-pub ply-to : (ply : ℕ) → plyOut ply ≡ false → ply ≤ 65535
-unfolding plyOut
-ply-to ply e = ltb-false _ _ (or_right (ltb ply 1) (ltb 65535 ply) e)
+pub ply_to : (ply : ℕ) → ply_out ply ≡ false → ply ≤ 65535
+unfolding ply_out
+ply_to ply e = ltb-false _ _ (or_right (ltb ply 1) (ltb 65535 ply) e)
 
-module _ (c : Clock) (e : allocationRefused c ≡ false) where
-  pub time-to : c.time ≤ 4294967295
-  unfolding allocationRefused
-  time-to = ltb-false _ _ (or_left (timeOver c.time) (noneRemaining c) e)
+module _ (c : Clock) (e : allocation_refused c ≡ false) where
+  pub time_to : c.time ≤ 4294967295
+  unfolding allocation_refused
+  time_to = ltb-false _ _ (or_left (time_over c.time) (none_remaining c) e)
 
-  pub some-remain : 0 < c.remaining
-  unfolding allocationRefused
-  some-remain = omega (arith, eqb-false c.remaining 0 (or_right (timeOver c.time) (noneRemaining c) e))
+  pub some_remain : 0 < c.remaining
+  unfolding allocation_refused
+  some_remain = omega (arith, eqb-false c.remaining 0 (or_right (time_over c.time) (none_remaining c) e))
 
-module _ (c : Clock) (now : ℕ) (e : nowOut c now ≡ false) where
-  pub now-from : c.started ≤ now
-  unfolding nowOut
-  now-from = ltb-false _ _ (or_left (ltb now c.started) (ltb 4294967295 (now - c.started)) e)
+module _ (c : Clock) (now : ℕ) (e : now_out c now ≡ false) where
+  pub now_from : c.started ≤ now
+  unfolding now_out
+  now_from = ltb-false _ _ (or_left (ltb now c.started) (ltb 4294967295 (now - c.started)) e)
 
-  pub now-to : now - c.started ≤ 4294967295
-  unfolding nowOut
-  now-to = ltb-false _ _ (or_right (ltb now c.started) (ltb 4294967295 (now - c.started)) e)
+  pub now_to : now - c.started ≤ 4294967295
+  unfolding now_out
+  now_to = ltb-false _ _ (or_right (ltb now c.started) (ltb 4294967295 (now - c.started)) e)
 
 -- what a poll that is not refused may go by
 pub record Polls (c : Clock) (nodes now : ℕ) : Type 0 where
   pub count : c.last ≤ nodes
-  pub allocation : allocationRefused c ≡ false
-  pub within : nowOut c now ≡ false
+  pub allocation : allocation_refused c ≡ false
+  pub within : now_out c now ≡ false
 
 -- where none of four tests passes, each fails
 none_of : (a b c d : Bool) → a || b || c || d ≡ false → (a ≡ false) × (b ≡ false) × (c ≡ false) × (d ≡ false)
@@ -65,15 +65,15 @@ none_of a b c d e =
     let ab = or_left (a || b) c abc in
     (or_left a b ab, or_right a b ab, or_right (a || b) c abc, or_right (a || b || c) d e)
 
-pub polls : (c : Clock) (nodes now : ℕ) → pollRefused c nodes now ≡ false → Polls c nodes now
-unfolding pollRefused allocationRefused
+pub polls : (c : Clock) (nodes now : ℕ) → poll_refused c nodes now ≡ false → Polls c nodes now
+unfolding poll_refused allocation_refused
 polls c nodes now e =
-    let n = none_of (timeOver c.time) (countBelow c nodes) (nowOut c now) (noneRemaining c) e in
+    let n = none_of (time_over c.time) (count_below c nodes) (now_out c now) (none_remaining c) e in
     record { count = ltb-false _ _ n.1; allocation = rw (n.0, n.3); within = n.2 }
 
 -- the increments of all moves that remain fit 64 bits, also with the time
-pub product-fits : {moves increment : ℕ} → moves ≤ 65535 → increment ≤ 65535 → moves * increment < 2 ^ 64
-product-fits hm hi = omega (arith, mul-le-mul hm hi)
+pub product_fits : {moves increment : ℕ} → moves ≤ 65535 → increment ≤ 65535 → moves * increment < 2 ^ 64
+product_fits hm hi = omega (arith, mul-le-mul hm hi)
 
 pub sum_fits : {time moves increment : ℕ} → time ≤ 4294967295 → moves ≤ 65535 → increment ≤ 65535 → time + moves * increment < 2 ^ 64
 sum_fits ht hm hi = omega (arith, mul-le-mul hm hi)

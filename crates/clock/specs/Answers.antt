@@ -26,9 +26,9 @@ abbrev pub stopped : Clock → Answer
 stopped c = gives (cond c.finished 1 0) c
 
 -- refused exactly when the test says so, and else the answer
-unfoldable pub refusedWhen : Bool → Clock → Answer → Answer
-refusedWhen true c a = refused c
-refusedWhen false c a = a
+unfoldable pub refused_when : Bool → Clock → Answer → Answer
+refused_when true c a = refused c
+refused_when false c a = a
 
 -- what new, start and set_time of a clock c told
 abbrev pub told : Clock → Ticked → Answer
@@ -36,11 +36,11 @@ told c (Went d) = gives 0 d
 told c Refused = refused c
 
 -- what a poll of a clock c told
-abbrev pub toldPoll : Clock → Ticked → Answer
-toldPoll c (Went d) = stopped d
-toldPoll c Refused = refused c
+abbrev pub told_poll : Clock → Ticked → Answer
+told_poll c (Went d) = stopped d
+told_poll c Refused = refused c
 
 -- what an allocation by a clock c told; the clock stays as it is
-abbrev pub toldTime : Clock → Allotted → Answer
-toldTime c (Allotted.Of t) = gives t c
-toldTime c Allotted.Refused = refused c
+abbrev pub told_time : Clock → Allotted → Answer
+told_time c (Allotted.Of t) = gives t c
+told_time c Allotted.Refused = refused c

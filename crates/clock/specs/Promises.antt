@@ -4,9 +4,9 @@ use Rattle.std.specs.Prelude.{◌≡◌, Bool, true, false, ℕ}
 use Rattle.clock.specs.declared.Clock.{Clock}
 use Rattle.clock.specs.declared.Ticked.{Ticked}
 use Rattle.clock.specs.declared.Allotted.{Allotted}
-use Rattle.clock.specs.Answers.{Answer, refused, told, toldPoll, toldTime}
-use Rattle.clock.specs.Refusals.{plyOut, timeOver, allocationRefused, pollRefused}
-use Rattle.clock.specs.Ticks.{newClock, newOf, start_of, setTimeOf, setIncrementOf, stopOf, allocatedOf, pollOf}
+use Rattle.clock.specs.Answers.{Answer, refused, told, told_poll, told_time}
+use Rattle.clock.specs.Refusals.{ply_out, time_over, allocation_refused, poll_refused}
+use Rattle.clock.specs.Ticks.{new_clock, new_of, start_of, set_time_of, set_increment_of, stop_of, allocated_of, poll_of}
 
 -- where the test passes the answer is the refusal, with the clock that went in; where it fails there is none
 pub record RefusedExactly (test : Bool) (before : Clock) (a : Answer) : Type 0 where
@@ -15,22 +15,22 @@ pub record RefusedExactly (test : Bool) (before : Clock) (a : Answer) : Type 0 w
 
 -- 01, Refusal numbers: "Given exactly when", of row 10; "clock .. come back from a refused call as they went in"
 pub record Row10 : Type 0 where
-  pub new : (level time : ℕ) → RefusedExactly (timeOver time) (newClock 0 0) (newOf level time)
-  pub start : (c : Clock) (ply now : ℕ) → RefusedExactly (plyOut ply) c (start_of c ply now)
-  pub setTime : (c : Clock) (time : ℕ) → RefusedExactly (timeOver time) c (setTimeOf c time)
-  pub allocated : (c : Clock) → RefusedExactly (allocationRefused c) c (allocatedOf c)
-  pub poll : (c : Clock) (nodes now : ℕ) → RefusedExactly (pollRefused c nodes now) c (pollOf c nodes now)
+  pub new : (level time : ℕ) → RefusedExactly (time_over time) (new_clock 0 0) (new_of level time)
+  pub start : (c : Clock) (ply now : ℕ) → RefusedExactly (ply_out ply) c (start_of c ply now)
+  pub set_time : (c : Clock) (time : ℕ) → RefusedExactly (time_over time) c (set_time_of c time)
+  pub allocated : (c : Clock) → RefusedExactly (allocation_refused c) c (allocated_of c)
+  pub poll : (c : Clock) (nodes now : ℕ) → RefusedExactly (poll_refused c nodes now) c (poll_of c nodes now)
 
 -- 01, History and clock: "A stop stays."
 pub record StopStays (c : Clock) : Type 0 where
-  pub stopped : (stopOf c).finished ≡ true
-  pub polled : (nodes now : ℕ) → c.finished ≡ true → (pollOf c nodes now).clock.finished ≡ true
-  pub told : (nodes now : ℕ) → c.finished ≡ true → pollRefused c nodes now ≡ false → (pollOf c nodes now).value ≡ 1
-  pub timeSet : (time : ℕ) → c.finished ≡ true → (setTimeOf c time).clock.finished ≡ true
-  pub incrementSet : (increment : ℕ) → c.finished ≡ true → (setIncrementOf c increment).finished ≡ true
+  pub stopped : (stop_of c).finished ≡ true
+  pub polled : (nodes now : ℕ) → c.finished ≡ true → (poll_of c nodes now).clock.finished ≡ true
+  pub told : (nodes now : ℕ) → c.finished ≡ true → poll_refused c nodes now ≡ false → (poll_of c nodes now).value ≡ 1
+  pub time_set : (time : ℕ) → c.finished ≡ true → (set_time_of c time).clock.finished ≡ true
+  pub increment_set : (increment : ℕ) → c.finished ≡ true → (set_increment_of c increment).finished ≡ true
 
 -- 01, What a result must tie down: "show that any two results allowed are equal"
 pub record OneResult (c : Clock) (a : Answer) : Type 0 where
   pub ticked : (r s : Ticked) → told c r ≡ a → told c s ≡ a → r ≡ s
-  pub polled : (r s : Ticked) → toldPoll c r ≡ a → toldPoll c s ≡ a → r ≡ s
-  pub allotted : (r s : Allotted) → toldTime c r ≡ a → toldTime c s ≡ a → r ≡ s
+  pub polled : (r s : Ticked) → told_poll c r ≡ a → told_poll c s ≡ a → r ≡ s
+  pub allotted : (r s : Allotted) → told_time c r ≡ a → told_time c s ≡ a → r ≡ s

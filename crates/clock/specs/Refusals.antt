@@ -3,29 +3,29 @@ use Rattle.std.specs.Prelude.{Bool, ◌||◌, ℕ, ◌-◌, eqb, ltb}
 use Rattle.clock.specs.declared.Clock.{Clock}
 
 -- 01, row 10: "clock ply outside 1..65,535"
-unfoldable pub plyOut : ℕ → Bool
-plyOut ply = ltb ply 1 || ltb 65535 ply
+unfoldable pub ply_out : ℕ → Bool
+ply_out ply = ltb ply 1 || ltb 65535 ply
 
 -- "time over 2^32 - 1"
-abbrev pub timeOver : ℕ → Bool
-timeOver time = ltb 4294967295 time
+abbrev pub time_over : ℕ → Bool
+time_over time = ltb 4294967295 time
 
 -- "a poll count below the last"
-abbrev pub countBelow : Clock → ℕ → Bool
-countBelow c nodes = ltb nodes c.last
+abbrev pub count_below : Clock → ℕ → Bool
+count_below c nodes = ltb nodes c.last
 
 -- "now before the start or over 2^32 - 1 ms after it"
-unfoldable pub nowOut : Clock → ℕ → Bool
-nowOut c now = ltb now c.started || ltb 4294967295 (now - c.started)
+unfoldable pub now_out : Clock → ℕ → Bool
+now_out c now = ltb now c.started || ltb 4294967295 (now - c.started)
 
 -- "a poll or allocation with remaining 0"
-abbrev pub noneRemaining : Clock → Bool
-noneRemaining c = eqb c.remaining 0
+abbrev pub none_remaining : Clock → Bool
+none_remaining c = eqb c.remaining 0
 
 -- an allocation uses the clock's own time and what remains
-unfoldable pub allocationRefused : Clock → Bool
-allocationRefused c = timeOver c.time || noneRemaining c
+unfoldable pub allocation_refused : Clock → Bool
+allocation_refused c = time_over c.time || none_remaining c
 
 -- a poll's conditions, in the row's order; tested at every poll, also one that would not look
-unfoldable pub pollRefused : Clock → ℕ → ℕ → Bool
-pollRefused c nodes now = timeOver c.time || countBelow c nodes || nowOut c now || noneRemaining c
+unfoldable pub poll_refused : Clock → ℕ → ℕ → Bool
+poll_refused c nodes now = time_over c.time || count_below c nodes || now_out c now || none_remaining c

@@ -1,8 +1,8 @@
 // The clock of 004, which goes in by value and comes back. An operation gives the new clock, or the refusal of 01's row 10.
 ghost use Rattle.std.specs.Prelude.{◌≡◌, false, ◌<◌, ◌≤◌};
-ghost use Rattle.clock.specs.Answers.{told, toldPoll, toldTime};
-ghost use Rattle.clock.specs.Refusals.{plyOut, timeOver, nowOut, allocationRefused, pollRefused};
-ghost use Rattle.clock.specs.Ticks.{newClock, newOf, remainingOf, start_of, setTimeOf, setIncrementOf, stopOf, allocation, allocatedOf, timeUp, pollOf};
+ghost use Rattle.clock.specs.Answers.{told, told_poll, told_time};
+ghost use Rattle.clock.specs.Refusals.{ply_out, time_over, now_out, allocation_refused, poll_refused};
+ghost use Rattle.clock.specs.Ticks.{new_clock, new_of, remaining_of, start_of, set_time_of, set_increment_of, stop_of, allocation, allocated_of, time_up, poll_of};
 
 // 2^32 - 1: the longest time, and the longest that a clock runs, in milliseconds.
 const LONGEST: u64 = 4294967295;
@@ -38,31 +38,31 @@ pub enum Allotted {
 }
 
 fn ply_out(ply: u64) -> bool
-    ensures { result ≡ plyOut ply }
+    ensures { result ≡ ply_out ply }
 {
     ply < 1 || ply > 65535
 }
 
 fn time_over(time: u64) -> bool
-    ensures { result ≡ timeOver time }
+    ensures { result ≡ time_over time }
 {
     time > LONGEST
 }
 
 fn now_out(clock: Clock, now: u64) -> bool
-    ensures { result ≡ nowOut clock now }
+    ensures { result ≡ now_out clock now }
 {
     now < clock.started || now - clock.started > LONGEST
 }
 
 fn allocation_refused(clock: Clock) -> bool
-    ensures { result ≡ allocationRefused clock }
+    ensures { result ≡ allocation_refused clock }
 {
     time_over(clock.time) || clock.remaining == 0
 }
 
 fn poll_refused(clock: Clock, nodes: u64, now: u64) -> bool
-    ensures { result ≡ pollRefused clock nodes now }
+    ensures { result ≡ poll_refused clock nodes now }
 {
     if time_over(clock.time) {
         return true;
@@ -79,7 +79,7 @@ fn poll_refused(clock: Clock, nodes: u64, now: u64) -> bool
 // Moves to the next time control at a ply. Plies count from 1, two to a move.
 fn moves_remaining(level: u16, ply: u16) -> u16
     requires { 1 ≤ ply }
-    ensures { result ≡ remainingOf level ply }
+    ensures { result ≡ remaining_of level ply }
 {
     if level == 0 {
         return 20;
@@ -90,7 +90,7 @@ fn moves_remaining(level: u16, ply: u16) -> u16
 
 // The time left shared among the moves that remain, each with its increment.
 fn allocation(clock: Clock) -> u64
-    requires { allocationRefused clock ≡ false }
+    requires { allocation_refused clock ≡ false }
     ensures { result ≡ allocation clock }
 {
     let moves = clock.remaining as u64;
@@ -100,8 +100,8 @@ fn allocation(clock: Clock) -> u64
 
 // 50 ms are kept back: 25 that go by between two looks, and 25 to play the move.
 fn time_up(clock: Clock, now: u64) -> bool
-    requires { (allocationRefused clock ≡ false) × (nowOut clock now ≡ false) }
-    ensures { result ≡ timeUp clock now }
+    requires { (allocation_refused clock ≡ false) × (now_out clock now ≡ false) }
+    ensures { result ≡ time_up clock now }
 {
     50 + (now - clock.started) > allocation(clock)
 }
@@ -109,7 +109,7 @@ fn time_up(clock: Clock, now: u64) -> bool
 impl Clock {
     // A clock that was never started: all moves of its level remain.
     pub fn new(level: u16, time: u64) -> Ticked
-        ensures { told (newClock 0 0) result ≡ newOf level time }
+        ensures { told (new_clock 0 0) result ≡ new_of level time }
     {
         if time_over(time) {
             return Ticked::Refused;
@@ -140,7 +140,7 @@ impl Clock {
     }
 
     pub fn set_time(mut self, time: u64) -> Ticked
-        ensures { told self result ≡ setTimeOf self time }
+        ensures { told self result ≡ set_time_of self time }
     {
         if time_over(time) {
             return Ticked::Refused;
@@ -150,7 +150,7 @@ impl Clock {
     }
 
     pub fn set_increment(mut self, increment: u16) -> Clock
-        ensures { result ≡ setIncrementOf self increment }
+        ensures { result ≡ set_increment_of self increment }
     {
         self.increment = increment;
         self
@@ -158,14 +158,14 @@ impl Clock {
 
     // Stays until the next start, whatever the polls find.
     pub fn stop(mut self) -> Clock
-        ensures { result ≡ stopOf self }
+        ensures { result ≡ stop_of self }
     {
         self.finished = true;
         self
     }
 
     pub fn allocated(self) -> Allotted
-        ensures { toldTime self result ≡ allocatedOf self }
+        ensures { told_time self result ≡ allocated_of self }
     {
         if allocation_refused(self) {
             return Allotted::Refused;
@@ -175,7 +175,7 @@ impl Clock {
 
     // The answer is the new clock's `finished`. The time is looked at only now and then, since a look costs more than a node.
     pub fn poll(mut self, nodes: u64, now: u64) -> Ticked
-        ensures { toldPoll self result ≡ pollOf self nodes now }
+        ensures { told_poll self result ≡ poll_of self nodes now }
     {
         if poll_refused(self, nodes, now) {
             return Ticked::Refused;

@@ -10,8 +10,8 @@ use Rattle.refusals.proofs.One.{one}
 use Rattle.desk.specs.declared.node_search.Start.{Start}
 use Rattle.results.specs.declared.NodeResult.{NodeResult}
 use Rattle.results.specs.declared.RootResult.{RootResult}
-use Rattle.desk.specs.NodeEntry.{nodeEntry}
-use Rattle.desk.specs.RootEntry.{rootEntry}
+use Rattle.desk.specs.NodeEntry.{node_entry}
+use Rattle.desk.specs.RootEntry.{root_entry}
 
 -- two results of a search, and the words and entries after each, that are what the entry gives are one
 abbrev pub OneSearch : {A : Type 0} → With A → Type 0
@@ -21,19 +21,19 @@ OneSearch {A} given =
 
 -- 01, What a result must tie down: "show that any two results allowed are equal"
 pub record OneResult : Type 0 where
-  pub node : (t : List ℕ) (set : Settings) (c : Stats) (at : Start) (words : List ℕ) (history : List ℤ) → OneSearch (nodeEntry t set c at words history)
+  pub node : (t : List ℕ) (set : Settings) (c : Stats) (at : Start) (words : List ℕ) (history : List ℤ) → OneSearch (node_entry t set c at words history)
   pub root
       : (t : List ℕ) (set : Settings) (c : Stats) (start end : ℤ) (words : List ℕ) (history : List ℤ)
-      → OneSearch (rootEntry t set c start end words history)
+      → OneSearch (root_entry t set c start end words history)
 
-one-search : {A : Type 0} (given : With A) → OneSearch given
-one-search {A} given r s words words' history history' p q =
+one_search : {A : Type 0} (given : With A) → OneSearch given
+one_search {A} given r s words words' history history' p q =
     let e = one given (with r words history) (with s words' history') p q in
     (ap (λ (x : With A). x.it) e, (ap (λ (x : With A). x.words) e, ap (λ (x : With A). x.history) e))
 
-pub one-result : OneResult
-one-result =
+pub one_result : OneResult
+one_result =
     record {
-      node = λ t set c at words history. one-search (nodeEntry t set c at words history);
-      root = λ t set c start end words history. one-search (rootEntry t set c start end words history);
+      node = λ t set c at words history. one_search (node_entry t set c at words history);
+      root = λ t set c start end words history. one_search (root_entry t set c start end words history);
     }

@@ -4,18 +4,18 @@ use Rattle.table.specs.declared.Stats.{Stats}
 use Rattle.state.specs.declared.Settings.{Settings}
 use Rattle.carry.specs.Carry.{With, with}
 use Rattle.root_steps.specs.declared.Depths.{Depths}
-use Rattle.root.specs.Root.{rootSearch}
-use Rattle.refusals.specs.Rows.{rangeRight}
-use Rattle.refusals.specs.First.{first, unless, searchRows}
+use Rattle.root.specs.Root.{root_search}
+use Rattle.refusals.specs.Rows.{range_right}
+use Rattle.refusals.specs.First.{first, unless, search_rows}
 use Rattle.results.specs.declared.RootResult.{RootResult}
 
 -- 01, Refusal numbers: 6, 1 to 5, 8, 7; row 9 is "not tested by the root search"
-unfoldable pub rootRefusal : List ℕ → List ℕ → List ℤ → Settings → ℤ → ℤ → ℕ
-rootRefusal t words history set start end = first (searchRows t words history set) (unless (rangeRight start end) 7 0)
+unfoldable pub root_refusal : List ℕ → List ℕ → List ℤ → Settings → ℤ → ℤ → ℕ
+root_refusal t words history set start end = first (search_rows t words history set) (unless (range_right start end) 7 0)
 
 -- 01, Visits: "Its result is score, move, depth, node count and stop mark, where depth is the last one whose move was saved"
-abbrev pub rootResult : Depths → RootResult
-rootResult d =
+abbrev pub root_result : Depths → RootResult
+root_result d =
     record {
       refusal = 0;
       score = d.best.score;
@@ -28,15 +28,15 @@ rootResult d =
 
 -- 01, Refusal numbers: "A refusal returns its number with every result number 0, and lent memory is unchanged; clock, age and counters come back
 -- from a refused call as they went in."
-abbrev pub rootRefused : ℕ → Stats → RootResult
-rootRefused r c = record { refusal = r; score = pos 0; mv = 0; depth = 0; nodes = 0; stopped = false; stats = c }
+abbrev pub root_refused : ℕ → Stats → RootResult
+root_refused r c = record { refusal = r; score = pos 0; mv = 0; depth = 0; nodes = 0; stopped = false; stats = c }
 
-abbrev pub rootGiven : With Depths → With RootResult
-rootGiven d = with (rootResult d.it) d.words d.history
+abbrev pub root_given : With Depths → With RootResult
+root_given d = with (root_result d.it) d.words d.history
 
-unfoldable pub rootAnswer : ℕ → List ℕ → Settings → Stats → ℤ → ℤ → List ℕ → List ℤ → With RootResult
-rootAnswer zero t set c start end words history = rootGiven (rootSearch t set c (nat_abs start) (nat_abs end) words history)
-rootAnswer (suc r) t set c start end words history = with (rootRefused (suc r) c) words history
+unfoldable pub root_answer : ℕ → List ℕ → Settings → Stats → ℤ → ℤ → List ℕ → List ℤ → With RootResult
+root_answer zero t set c start end words history = root_given (root_search t set c (nat_abs start) (nat_abs end) words history)
+root_answer (suc r) t set c start end words history = with (root_refused (suc r) c) words history
 
-abbrev pub rootEntry : List ℕ → Settings → Stats → ℤ → ℤ → List ℕ → List ℤ → With RootResult
-rootEntry t set c start end words history = rootAnswer (rootRefusal t words history set start end) t set c start end words history
+abbrev pub root_entry : List ℕ → Settings → Stats → ℤ → ℤ → List ℕ → List ℤ → With RootResult
+root_entry t set c start end words history = root_answer (root_refusal t words history set start end) t set c start end words history

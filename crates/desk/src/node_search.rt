@@ -1,10 +1,10 @@
 // The node search: a visit of any node, in any window, depth and ply. It zeroes and resets nothing.
 ghost use Rattle.std.specs.Prelude.{◌≡◌, true, pos, ◌≤◌, ◌<◌};
 ghost use Rattle.std.specs.Int.Signed.{le_z};
-ghost use Rattle.tree.specs.Blocks.{Blocked, nodesOf};
+ghost use Rattle.tree.specs.Blocks.{Blocked, nodes_of};
 ghost use Rattle.tree.specs.Layout.{Laid};
 ghost use Rattle.carry.specs.Carry.{with};
-ghost use Rattle.desk.specs.NodeEntry.{startRight, nodeRefusal, sideAt, fresh, argsOf, nodeResult, nodeRefused, nodeEntry};
+ghost use Rattle.desk.specs.NodeEntry.{start_right, node_refusal, side_at, fresh, args_of, node_result, node_refused, node_entry};
 ghost use Rattle.desk.specs.Told.{NodeTold};
 
 use carry::Args;
@@ -25,7 +25,7 @@ pub struct Start {
 // Row 7, of all that a node search takes, in a tree whose blocks are right.
 fn start_right(tree: &[u8], set: Settings, at: Start) -> bool
     requires { Blocked tree.now }
-    ensures { result ≡ startRight tree.now set at }
+    ensures { result ≡ start_right tree.now set at }
 {
     if !refusals::node_right(tree, at.node) {
         return false;
@@ -41,7 +41,7 @@ fn start_right(tree: &[u8], set: Settings, at: Start) -> bool
 
 // The first refusal that a node search gets, 0 where there is none.
 pub fn node_refusal(tree: &[u8], words: &[u64], history: &[i16], set: Settings, at: Start) -> u8
-    ensures { result ≡ nodeRefusal tree.now words.now history.now set at }
+    ensures { result ≡ node_refusal tree.now words.now history.now set at }
 {
     let r = refusals::search_rows(tree, words, history, set);
     if r != 0 {
@@ -60,7 +60,7 @@ pub fn node_refusal(tree: &[u8], words: &[u64], history: &[i16], set: Settings, 
 fn side_at(tree: &[u8], set: Settings, node: usize) -> u8
     requires laid { Laid tree.now }
     requires side_bound { set.side ≤ 1 }
-    ensures { result ≡ sideAt tree.now set node }
+    ensures { result ≡ side_at tree.now set node }
 {
     if tree::level::level(tree, node) % 2 == 0 {
         set.side
@@ -73,7 +73,7 @@ fn args_of(tree: &[u8], set: Settings, at: Start) -> Args
     requires laid { Laid tree.now }
     requires side_bound { set.side ≤ 1 }
     requires depth_value { le_z (pos 0) at.depth ≡ true }
-    ensures { result ≡ argsOf tree.now set at }
+    ensures { result ≡ args_of tree.now set at }
 {
     let node = at.node as usize;
     let side = side_at(tree, set, node);
@@ -88,7 +88,7 @@ fn args_of(tree: &[u8], set: Settings, at: Start) -> Args
 }
 
 fn node_refused(refusal: u8, stats: Stats) -> NodeResult
-    ensures { result ≡ nodeRefused refusal stats }
+    ensures { result ≡ node_refused refusal stats }
 {
     NodeResult {
         refusal: refusal,
@@ -100,7 +100,7 @@ fn node_refused(refusal: u8, stats: Stats) -> NodeResult
 }
 
 fn node_result(o: Out) -> NodeResult
-    ensures { result ≡ nodeResult o }
+    ensures { result ≡ node_result o }
 {
     let s = o.state;
     let stats = s.stats;
@@ -133,7 +133,7 @@ pub fn search_node(
     at: Start,
 ) -> NodeResult
     ensures searched { with result words.new history.new ≡
-        nodeEntry tree.now set stats at words.old history.old }
+        node_entry tree.now set stats at words.old history.old }
     ensures truth { NodeTold set tree.now at result }
 {
     let r = node_refusal(tree, words, history, set, at);

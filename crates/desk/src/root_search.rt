@@ -2,7 +2,7 @@
 ghost use Rattle.std.specs.Prelude.{◌≡◌, true, pos, nat_abs};
 ghost use Rattle.std.specs.Int.Signed.{le_z};
 ghost use Rattle.carry.specs.Carry.{with};
-ghost use Rattle.desk.specs.RootEntry.{rootRefusal, rootResult, rootRefused, rootEntry};
+ghost use Rattle.desk.specs.RootEntry.{root_refusal, root_result, root_refused, root_entry};
 
 use results::RootResult;
 use root_steps::Depths;
@@ -18,7 +18,7 @@ pub fn root_refusal(
     start: i8,
     end: i8,
 ) -> u8
-    ensures { result ≡ rootRefusal tree.now words.now history.now set start end }
+    ensures { result ≡ root_refusal tree.now words.now history.now set start end }
 {
     let r = refusals::search_rows(tree, words, history, set);
     if r != 0 {
@@ -31,7 +31,7 @@ pub fn root_refusal(
 }
 
 fn root_refused(refusal: u8, stats: Stats) -> RootResult
-    ensures { result ≡ rootRefused refusal stats }
+    ensures { result ≡ root_refused refusal stats }
 {
     RootResult {
         refusal: refusal,
@@ -45,7 +45,7 @@ fn root_refused(refusal: u8, stats: Stats) -> RootResult
 }
 
 fn root_result(d: Depths) -> RootResult
-    ensures { result ≡ rootResult d }
+    ensures { result ≡ root_result d }
 {
     let best = d.best;
     let s = d.state;
@@ -79,7 +79,7 @@ pub fn search_root(
     end: i8,
 ) -> RootResult
     ensures { with result words.new history.new ≡
-        rootEntry tree.now set stats start end words.old history.old }
+        root_entry tree.now set stats start end words.old history.old }
 {
     let r = root_refusal(tree, words, history, set, start, end);
     if r != 0 {

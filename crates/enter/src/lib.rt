@@ -1,8 +1,8 @@
 // The steps of a node's visit before its moves: extension, draw, table, reverse futility, inner deepening's own, the hint's place.
 ghost use Rattle.std.specs.Prelude.{◌≡◌, ◌≤◌, ◌<◌, length};
-ghost use Rattle.tree.specs.Blocks.{Blocked, nodesOf};
+ghost use Rattle.tree.specs.Blocks.{Blocked, nodes_of};
 ghost use Rattle.tree.specs.Layout.{Laid};
-ghost use Rattle.enter.specs.Enter.{extendOf, fullWindow, margin, reverseFutile, probeOf, enterOf, deepensOf, inner_of, hintedOf, hintPlace};
+ghost use Rattle.enter.specs.Enter.{extend_of, full_window, margin, reverse_futile, probe_of, enter_of, deepens_of, inner_of, hinted_of, hint_place};
 
 use carry::{Args, Entered, Here, Loc};
 use moves::Place;
@@ -13,9 +13,9 @@ use state::{Out, Settings, State};
 // In check, depth + 1.
 pub fn extend(tree: &[u8], a: Args) -> Args
     requires blocked { Blocked tree.now }
-    requires node_bound { a.node < nodesOf tree.now }
+    requires node_bound { a.node < nodes_of tree.now }
     requires depth_bound { a.depth ≤ 30 }
-    ensures { result ≡ extendOf tree.now a }
+    ensures { result ≡ extend_of tree.now a }
 {
     let k = a.node;
     let mut x = a;
@@ -27,7 +27,7 @@ pub fn extend(tree: &[u8], a: Args) -> Args
 
 // A full window is one whose alpha is not beta - 1.
 fn full_window(a: Args) -> bool
-    ensures { result ≡ fullWindow a.alpha a.beta }
+    ensures { result ≡ full_window a.alpha a.beta }
 {
     !same16(a.alpha, sub16(a.beta, 1))
 }
@@ -35,7 +35,7 @@ fn full_window(a: Args) -> bool
 // What the evaluation must reach: beta and 75 a depth, less 20 if improving.
 fn reverse_margin(tree: &[u8], here: Here) -> i16
     requires blocked { Blocked tree.now }
-    requires node_bound { here.node < nodesOf tree.now }
+    requires node_bound { here.node < nodes_of tree.now }
     requires depth_bound { here.depth < 7 }
     ensures { result ≡ margin tree.now here }
 {
@@ -50,8 +50,8 @@ fn reverse_margin(tree: &[u8], here: Here) -> i16
 // Whether the evaluation is so far above beta that the moves need no look.
 fn reverse_futile(tree: &[u8], set: Settings, here: Here) -> bool
     requires blocked { Blocked tree.now }
-    requires node_bound { here.node < nodesOf tree.now }
-    ensures { result ≡ reverseFutile tree.now set here }
+    requires node_bound { here.node < nodes_of tree.now }
+    ensures { result ≡ reverse_futile tree.now set here }
 {
     let k = here.node;
     if !set.reverse_futility {
@@ -75,10 +75,10 @@ fn reverse_futile(tree: &[u8], set: Settings, here: Here) -> bool
 // The table, then reverse futility.
 fn probe(tree: &[u8], words: &[u64], set: Settings, st: State, a: Args) -> Entered
     requires blocked { Blocked tree.now }
-    requires node_bound { a.node < nodesOf tree.now }
+    requires node_bound { a.node < nodes_of tree.now }
     requires depth_bound { a.depth ≤ 31 }
     requires in_bounds { 2 ≤ length words.now }
-    ensures { result ≡ probeOf set tree.now words.now st a }
+    ensures { result ≡ probe_of set tree.now words.now st a }
 {
     let k = a.node;
     let full = full_window(a);
@@ -114,10 +114,10 @@ fn probe(tree: &[u8], words: &[u64], set: Settings, st: State, a: Args) -> Enter
 // Draw, table, reverse futility.
 pub fn enter(tree: &[u8], words: &[u64], set: Settings, st: State, a: Args) -> Entered
     requires blocked { Blocked tree.now }
-    requires node_bound { a.node < nodesOf tree.now }
+    requires node_bound { a.node < nodes_of tree.now }
     requires depth_bound { a.depth ≤ 31 }
     requires in_bounds { 2 ≤ length words.now }
-    ensures { result ≡ enterOf set tree.now words.now st a }
+    ensures { result ≡ enter_of set tree.now words.now st a }
 {
     let k = a.node;
     if node::is_draw(tree, k) {
@@ -128,7 +128,7 @@ pub fn enter(tree: &[u8], words: &[u64], set: Settings, st: State, a: Args) -> E
 
 // Whether inner deepening is due: a full window, no hint, depth over 2.
 pub fn deepens(set: Settings, here: Here, loc: Loc) -> bool
-    ensures { result ≡ deepensOf set here loc }
+    ensures { result ≡ deepens_of set here loc }
 {
     if !set.inner_deepening {
         return false;
@@ -160,9 +160,9 @@ pub fn inner(here: Here, loc: Loc) -> Args
 // The hint that inner deepening left in the table.
 pub fn hinted(tree: &[u8], words: &[u64], set: Settings, here: Here, loc: Loc, r: Out) -> Loc
     requires blocked { Blocked tree.now }
-    requires node_bound { here.node < nodesOf tree.now }
+    requires node_bound { here.node < nodes_of tree.now }
     requires in_bounds { 2 ≤ length words.now }
-    ensures { result ≡ hintedOf set tree.now words.now here loc r }
+    ensures { result ≡ hinted_of set tree.now words.now here loc r }
 {
     let k = here.node;
     let st = r.state;
@@ -180,8 +180,8 @@ pub fn hinted(tree: &[u8], words: &[u64], set: Settings, here: Here, loc: Loc, r
 // The hint's place, if it is a child.
 pub fn hint_place(tree: &[u8], here: Here, loc: Loc) -> Place
     requires laid { Laid tree.now }
-    requires node_bound { here.node < nodesOf tree.now }
-    ensures { result ≡ hintPlace tree.now here loc }
+    requires node_bound { here.node < nodes_of tree.now }
+    ensures { result ≡ hint_place tree.now here loc }
 {
     let k = here.node;
     let first = node::first_child(tree, k);

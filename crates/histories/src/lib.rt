@@ -1,7 +1,7 @@
 // The history's public entries: delta takes HH_MAX alone; bonus and malus take HH_MAX, the side and the lent entries. `hh` is HH_MAX.
 ghost use Rattle.std.specs.Prelude.{◌≡◌, true, ◌≤◌, pos, nat_abs, length};
 ghost use Rattle.std.specs.Int.Signed.{le_z};
-ghost use Rattle.histories.specs.Histories.{overHistory, entryGiven, entryRefused, bonusEntry, malusEntry, deltaEntry};
+ghost use Rattle.histories.specs.Histories.{over_history, entry_given, entry_refused, bonus_entry, malus_entry, delta_entry};
 
 #[derive(Drop)]
 pub struct DeltaResult {
@@ -26,7 +26,7 @@ fn unsigned(hh: i16) -> u16
 
 // By how much a cutoff at this depth moves an entry.
 pub fn delta(hh: i16, depth: i8) -> DeltaResult
-    ensures { result ≡ deltaEntry hh depth }
+    ensures { result ≡ delta_entry hh depth }
 {
     if !refusals::hh_max_right(hh) {
         return DeltaResult {
@@ -42,7 +42,7 @@ pub fn delta(hh: i16, depth: i8) -> DeltaResult
 }
 
 fn entry_refused(refusal: u8) -> EntryResult
-    ensures { result ≡ entryRefused refusal }
+    ensures { result ≡ entry_refused refusal }
 {
     EntryResult {
         refusal: refusal,
@@ -53,7 +53,7 @@ fn entry_refused(refusal: u8) -> EntryResult
 // The entry of a side's move, once it is changed.
 fn entry_given(history: &[i16], side: u8, mv: u16) -> EntryResult
     requires { (length history.now ≡ 8192) × (side ≤ 1) }
-    ensures { result ≡ entryGiven history.now side mv }
+    ensures { result ≡ entry_given history.now side mv }
 {
     let i = history::history_index(side, mv);
     EntryResult {
@@ -64,7 +64,7 @@ fn entry_given(history: &[i16], side: u8, mv: u16) -> EntryResult
 
 // A quiet move that cut off at this depth.
 pub fn bonus(history: &mut [i16], hh: i16, side: u16, mv: u16, depth: i8) -> EntryResult
-    ensures { overHistory result history.new ≡ bonusEntry history.old hh side mv depth }
+    ensures { over_history result history.new ≡ bonus_entry history.old hh side mv depth }
 {
     let r = refusals::entry_rows(history, hh, side);
     if r != 0 {
@@ -78,7 +78,7 @@ pub fn bonus(history: &mut [i16], hh: i16, side: u16, mv: u16, depth: i8) -> Ent
 
 // A quiet move that was tried before the one that cut off.
 pub fn malus(history: &mut [i16], hh: i16, side: u16, mv: u16, depth: i8) -> EntryResult
-    ensures { overHistory result history.new ≡ malusEntry history.old hh side mv depth }
+    ensures { over_history result history.new ≡ malus_entry history.old hh side mv depth }
 {
     let r = refusals::entry_rows(history, hh, side);
     if r != 0 {

@@ -9,8 +9,8 @@ use lib.IntN.{ℤ, pos, negsuc, neg_ℤ, nat_abs, ◌+ℤ◌, ◌-ℤ◌, ◌*�
 use lib.Signed.{nat_abs-le, lt_z, non_neg}
 use mir.Syntax.{w8, w16, w32}
 use mir.Val.{SFits}
-use Rattle.score.proofs.Diff.{abs_neg, abs-mul, abs-add, fits-abs}
-use Rattle.history.specs.Gravity.{curve, held, deltaOf}
+use Rattle.score.proofs.Diff.{abs_neg, abs_mul, abs_add, fits_abs}
+use Rattle.history.specs.Gravity.{curve, held, delta_of}
 
 -- the curve, at a depth of 8 bits
 module _ (d : ℤ) (f : SFits w8 d) where
@@ -18,29 +18,29 @@ module _ (d : ℤ) (f : SFits w8 d) where
   small = nat_abs-le d f.sfits
 
   pub by16 : SFits w32 (pos 16 *ℤ d)
-  by16 = fits-abs w32 (pos 16 *ℤ d) (omega (arith, small, abs-mul (pos 16) d))
+  by16 = fits_abs w32 (pos 16 *ℤ d) (omega (arith, small, abs_mul (pos 16) d))
 
   square : nat_abs (pos 16 *ℤ d *ℤ d) ≤ 262144
   square =
-      let by : nat_abs (pos 16 *ℤ d) ≤ 2048 = omega (arith, small, abs-mul (pos 16) d) in
-      omega (arith, abs-mul (pos 16 *ℤ d) d, mul-le-mul {n₁ = nat_abs (pos 16 *ℤ d)} {m₁ = nat_abs d} {n₂ = 2048} {m₂ = 128} by small)
+      let by : nat_abs (pos 16 *ℤ d) ≤ 2048 = omega (arith, small, abs_mul (pos 16) d) in
+      omega (arith, abs_mul (pos 16 *ℤ d) d, mul-le-mul {n₁ = nat_abs (pos 16 *ℤ d)} {m₁ = nat_abs d} {n₂ = 2048} {m₂ = 128} by small)
 
   pub squared : SFits w32 (pos 16 *ℤ d *ℤ d)
-  squared = fits-abs w32 (pos 16 *ℤ d *ℤ d) (omega (arith, square))
+  squared = fits_abs w32 (pos 16 *ℤ d *ℤ d) (omega (arith, square))
 
   pub by128 : SFits w32 (pos 128 *ℤ d)
-  by128 = fits-abs w32 (pos 128 *ℤ d) (omega (arith, small, abs-mul (pos 128) d))
+  by128 = fits_abs w32 (pos 128 *ℤ d) (omega (arith, small, abs_mul (pos 128) d))
 
   sum : nat_abs (pos 16 *ℤ d *ℤ d +ℤ pos 128 *ℤ d) ≤ 278528
-  sum = omega (arith, square, small, abs-mul (pos 128) d, abs-add (pos 16 *ℤ d *ℤ d) (pos 128 *ℤ d))
+  sum = omega (arith, square, small, abs_mul (pos 128) d, abs_add (pos 16 *ℤ d *ℤ d) (pos 128 *ℤ d))
 
   pub summed : SFits w32 (pos 16 *ℤ d *ℤ d +ℤ pos 128 *ℤ d)
-  summed = fits-abs w32 (pos 16 *ℤ d *ℤ d +ℤ pos 128 *ℤ d) (omega (arith, sum))
+  summed = fits_abs w32 (pos 16 *ℤ d *ℤ d +ℤ pos 128 *ℤ d) (omega (arith, sum))
 
   pub curved : SFits w32 (pos 16 *ℤ d *ℤ d +ℤ pos 128 *ℤ d -ℤ pos 256)
   curved =
-      fits-abs w32 (pos 16 *ℤ d *ℤ d +ℤ pos 128 *ℤ d -ℤ pos 256)
-      (omega (arith, sum, abs-add (pos 16 *ℤ d *ℤ d +ℤ pos 128 *ℤ d) (negsuc 255)))
+      fits_abs w32 (pos 16 *ℤ d *ℤ d +ℤ pos 128 *ℤ d -ℤ pos 256)
+      (omega (arith, sum, abs_add (pos 16 *ℤ d *ℤ d +ℤ pos 128 *ℤ d) (negsuc 255)))
 
 -- held to a range: below it, inside, above
 pub held_low : (z : ℤ) (most : ℕ) → T (lt_z z (pos 0)) → 0 ≡ held z most
@@ -56,33 +56,33 @@ pub record Inside (z : ℤ) (most : ℕ) : Type 0 where
   pub below : nat_abs z < most
   pub same : nat_abs z ≡ held z most
 
-pub held-mid : (z : ℤ) (most : ℕ) → T (not (lt_z z (pos 0))) → T (lt_z z (pos most)) → Inside z most
+pub held_mid : (z : ℤ) (most : ℕ) → T (not (lt_z z (pos 0))) → T (lt_z z (pos most)) → Inside z most
 unfolding held
-held-mid (pos n) most t u =
+held_mid (pos n) most t u =
     record { sign = tt; below = ltb→lt n most u; same = sym (min-eq_left (le_of_lt (ltb→lt n most u))) }
-held-mid (negsuc n) most t u = absurd t
+held_mid (negsuc n) most t u = absurd t
 
 pub held_high : (z : ℤ) (most : ℕ) → T (not (lt_z z (pos 0))) → T (not (lt_z z (pos most))) → most ≡ held z most
 unfolding held
 held_high (pos n) most t u = sym (min-eq_right (nltb→le n most u))
 held_high (negsuc n) most t u = absurd t
 
-held-le : (z : ℤ) (most : ℕ) → held z most ≤ most
+held_le : (z : ℤ) (most : ℕ) → held z most ≤ most
 unfolding held
-held-le (pos n) most = omega arith
-held-le (negsuc n) most = omega arith
+held_le (pos n) most = omega arith
+held_le (negsuc n) most = omega arith
 
 -- 01: "held to 0..HH_MAX/4"
-pub delta-le : (hh : ℕ) (d : ℤ) → deltaOf hh d ≤ hh / 4
-unfolding deltaOf
-delta-le hh d = held-le (curve d) (hh / 4)
+pub delta_le : (hh : ℕ) (d : ℤ) → delta_of hh d ≤ hh / 4
+unfolding delta_of
+delta_le hh d = held_le (curve d) (hh / 4)
 
 -- so both it and its negation fit a score, and are as small as gravity wants its v
-pub delta16 : (hh : ℕ) (d : ℤ) → hh < 65536 → SFits w16 (pos (deltaOf hh d))
-delta16 hh d u = record { sfits = omega (arith, delta-le hh d) }
+pub delta16 : (hh : ℕ) (d : ℤ) → hh < 65536 → SFits w16 (pos (delta_of hh d))
+delta16 hh d u = record { sfits = omega (arith, delta_le hh d) }
 
-pub minus-le : (hh : ℕ) (d : ℤ) → nat_abs (neg_ℤ (pos (deltaOf hh d))) ≤ hh / 4
-minus-le hh d = rw abs_neg (delta-le hh d)
+pub minus_le : (hh : ℕ) (d : ℤ) → nat_abs (neg_ℤ (pos (delta_of hh d))) ≤ hh / 4
+minus_le hh d = rw abs_neg (delta_le hh d)
 
-pub minus16 : (hh : ℕ) (d : ℤ) → hh < 65536 → SFits w16 (neg_ℤ (pos (deltaOf hh d)))
-minus16 hh d u = fits-abs w16 (neg_ℤ (pos (deltaOf hh d))) (omega (arith, minus-le hh d))
+pub minus16 : (hh : ℕ) (d : ℤ) → hh < 65536 → SFits w16 (neg_ℤ (pos (delta_of hh d)))
+minus16 hh d u = fits_abs w16 (neg_ℤ (pos (delta_of hh d))) (omega (arith, minus_le hh d))

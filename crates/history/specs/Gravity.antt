@@ -13,13 +13,13 @@ held (pos n) most = min n most
 held (negsuc n) most = 0
 
 -- 01, History and clock: "Delta: 16d^2 + 128d - 256, held to 0..HH_MAX/4 (rounded down)."
-unfoldable pub deltaOf : ℕ → ℤ → ℕ
-deltaOf hh d = held (curve d) (hh / 4)
+unfoldable pub delta_of : ℕ → ℤ → ℕ
+delta_of hh d = held (curve d) (hh / 4)
 
 -- 01, History and clock: "New = old + v - old*|v|/HH_MAX, division toward zero"
-unfoldable pub newOf : ℕ → ℤ → ℤ → ℤ
-newOf hh old v = old +ℤ v -ℤ quot_z (old *ℤ pos (nat_abs v)) (pos hh)
+unfoldable pub new_of : ℕ → ℤ → ℤ → ℤ
+new_of hh old v = old +ℤ v -ℤ quot_z (old *ℤ pos (nat_abs v)) (pos hh)
 
 -- 003: "new as Score", the low 16 bits of new; within plus and minus HH_MAX that is new itself
-unfoldable pub gravityOf : ℕ → ℤ → ℤ → ℤ
-gravityOf hh old v = wrap16 (newOf hh old v)
+unfoldable pub gravity_of : ℕ → ℤ → ℤ → ℤ
+gravity_of hh old v = wrap16 (new_of hh old v)

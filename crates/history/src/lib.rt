@@ -1,8 +1,8 @@
 // History: the delta of a depth, the gravity that keeps an entry in range, and the lent entries, one for each side and move.
 // `hh` is the setting HH_MAX throughout.
 ghost use Rattle.std.specs.Prelude.{◌≡◌, ◌<◌, ◌≤◌, ◌/◌, nat_abs, pos, length};
-ghost use Rattle.history.specs.Gravity.{curve, deltaOf, gravityOf};
-ghost use Rattle.history.specs.Entries.{index_of, updateOf, bonusOf, malusOf, clearOf, withinOf};
+ghost use Rattle.history.specs.Gravity.{curve, delta_of, gravity_of};
+ghost use Rattle.history.specs.Entries.{index_of, update_of, bonus_of, malus_of, clear_of, within_of};
 
 // 16d^2 + 128d - 256. Depths have 8 bits, so 32 are enough on the way.
 fn curve_at(depth: i8) -> i32
@@ -14,7 +14,7 @@ fn curve_at(depth: i8) -> i32
 
 // By how much a cutoff at this depth moves an entry: at most a quarter of HH_MAX.
 pub fn delta(depth: i8, hh: u16) -> u16
-    ensures { result ≡ deltaOf hh depth }
+    ensures { result ≡ delta_of hh depth }
 {
     let y = curve_at(depth);
     let most = hh / 4;
@@ -29,7 +29,7 @@ pub fn delta(depth: i8, hh: u16) -> u16
 
 // The delta as a score, which has room for a quarter of any HH_MAX.
 fn delta_score(depth: i8, hh: u16) -> i16
-    ensures { result ≡ pos (deltaOf hh depth) }
+    ensures { result ≡ pos (delta_of hh depth) }
 {
     delta(depth, hh) as i16
 }
@@ -49,7 +49,7 @@ fn abs(v: i16) -> u16
 // callers need to know nothing of the entries; from beyond HH_MAX the result may wrap, as in 003.
 pub fn gravity(old: i16, v: i16, hh: u16) -> i16
     requires { (0 < hh) × (nat_abs v ≤ hh / 4) }
-    ensures { result ≡ gravityOf hh old v }
+    ensures { result ≡ gravity_of hh old v }
 {
     let o = old as i32;
     let m = abs(v) as i32;
@@ -70,7 +70,7 @@ pub fn history_index(side: u8, mv: u16) -> usize
 // Gravity at the entry of a side's move, and at no other: bonus and malus are this, with v of either sign.
 pub fn update(history: &mut [i16], hh: u16, side: u8, mv: u16, v: i16)
     requires { (length history.old ≡ 8192) × ((side ≤ 1) × ((0 < hh) × (nat_abs v ≤ hh / 4))) }
-    ensures { history.new ≡ updateOf hh history.old side mv v }
+    ensures { history.new ≡ update_of hh history.old side mv v }
 {
     let i = history_index(side, mv);
     let old = history[i];
@@ -80,7 +80,7 @@ pub fn update(history: &mut [i16], hh: u16, side: u8, mv: u16, v: i16)
 // A quiet move that cut off at this depth.
 pub fn bonus(history: &mut [i16], hh: u16, side: u8, mv: u16, depth: i8)
     requires { (length history.old ≡ 8192) × ((side ≤ 1) × (0 < hh)) }
-    ensures { history.new ≡ bonusOf hh history.old side mv depth }
+    ensures { history.new ≡ bonus_of hh history.old side mv depth }
 {
     let v = delta_score(depth, hh);
     update(history, hh, side, mv, v);
@@ -89,7 +89,7 @@ pub fn bonus(history: &mut [i16], hh: u16, side: u8, mv: u16, depth: i8)
 // A quiet move that was tried before the one that cut off.
 pub fn malus(history: &mut [i16], hh: u16, side: u8, mv: u16, depth: i8)
     requires { (length history.old ≡ 8192) × ((side ≤ 1) × (0 < hh)) }
-    ensures { history.new ≡ malusOf hh history.old side mv depth }
+    ensures { history.new ≡ malus_of hh history.old side mv depth }
 {
     let v = -delta_score(depth, hh);
     update(history, hh, side, mv, v);
@@ -97,7 +97,7 @@ pub fn malus(history: &mut [i16], hh: u16, side: u8, mv: u16, depth: i8)
 
 // Every entry becomes 0.
 pub fn clear(history: &mut [i16])
-    ensures { history.new ≡ clearOf history.old }
+    ensures { history.new ≡ clear_of history.old }
 {
     let mut i = 0;
     while i < history.len() {
@@ -108,7 +108,7 @@ pub fn clear(history: &mut [i16])
 
 // Whether no entry lies beyond plus or minus HH_MAX.
 pub fn within(history: &[i16], hh: u16) -> bool
-    ensures { result ≡ withinOf hh history.now }
+    ensures { result ≡ within_of hh history.now }
 {
     let mut i = 0;
     while i < history.len() {

@@ -4,46 +4,46 @@ use Rattle.std.specs.Int.Signed.{lt_z}
 use Rattle.score.specs.Wrap.{neg16, add16}
 use Rattle.transposition.specs.declared.Bound.{Bound}
 use Rattle.transposition.specs.declared.Bound.TheVariants.{Exact, Upper}
-use Rattle.record.specs.Node.{count_of, hashOf, inCheck}
+use Rattle.record.specs.Node.{count_of, hash_of, in_check}
 use Rattle.state.specs.declared.Settings.{Settings}
 use Rattle.state.specs.declared.State.{State}
 use Rattle.state.specs.declared.Out.{Out}
-use Rattle.state.specs.State.{Over, over, answer_of, keepOf}
+use Rattle.state.specs.State.{Over, over, answer_of, keep_of}
 use Rattle.carry.specs.declared.Here.{Here}
 use Rattle.carry.specs.declared.Loc.{Loc}
 use Rattle.carry.specs.declared.Turn.{Turn}
 use Rattle.carry.specs.Carry.{With, beside}
 
 -- 01, Visits: "No children: -INF + ply in check, else 0."
-unfoldable pub gameEnd : Bool → ℤ → ℕ → ℤ
-gameEnd true inf ply = add16 (neg16 inf) (pos ply)
-gameEnd false inf ply = pos 0
+unfoldable pub game_end : Bool → ℤ → ℕ → ℤ
+game_end true inf ply = add16 (neg16 inf) (pos ply)
+game_end false inf ply = pos 0
 
 -- 01, Visits: "the bound stored is Exact if the best score exceeds the alpha of entry, else Upper"
-unfoldable pub boundIf : Bool → Bound
-boundIf true = Exact
-boundIf false = Upper
+unfoldable pub bound_if : Bool → Bound
+bound_if true = Exact
+bound_if false = Upper
 
-abbrev pub boundOf : Here → Loc → Bound
-boundOf h l = boundIf (lt_z h.old l.best)
+abbrev pub bound_of : Here → Loc → Bound
+bound_of h l = bound_if (lt_z h.old l.best)
 
-abbrev pub keptWith : ℤ → Over State → Over Out
-keptWith x k = over (answer_of x k.it) k.words
+abbrev pub kept_with : ℤ → Over State → Over Out
+kept_with x k = over (answer_of x k.it) k.words
 
 -- "with the best score kept as 000 keeps it"; the answer is alpha
-unfoldable pub storedOf : List ℕ → Settings → Here → Loc → List ℕ → Over Out
-storedOf t set h l words =
-    keptWith l.alpha (keepOf set.table words l.state (hashOf t h.node) (pos h.depth) l.best l.mv (boundOf h l))
+unfoldable pub stored_of : List ℕ → Settings → Here → Loc → List ℕ → Over Out
+stored_of t set h l words =
+    kept_with l.alpha (keep_of set.table words l.state (hash_of t h.node) (pos h.depth) l.best l.mv (bound_of h l))
 
 -- no moves: the end of the game
-unfoldable pub endIf : Bool → List ℕ → Settings → Here → Loc → List ℕ → Over Out
-endIf true t set h l words = over (answer_of (gameEnd (inCheck t h.node) set.inf h.ply) l.state) words
-endIf false t set h l words = storedOf t set h l words
+unfoldable pub end_if : Bool → List ℕ → Settings → Here → Loc → List ℕ → Over Out
+end_if true t set h l words = over (answer_of (game_end (in_check t h.node) set.inf h.ply) l.state) words
+end_if false t set h l words = stored_of t set h l words
 
 -- a cutoff's score is the answer, and was stored
-unfoldable pub finishIf : Bool → List ℕ → Settings → Here → Loc → List ℕ → Over Out
-finishIf true t set h l words = over (answer_of l.best l.state) words
-finishIf false t set h l words = endIf (eqb (count_of t h.node) 0) t set h l words
+unfoldable pub finish_if : Bool → List ℕ → Settings → Here → Loc → List ℕ → Over Out
+finish_if true t set h l words = over (answer_of l.best l.state) words
+finish_if false t set h l words = end_if (eqb (count_of t h.node) 0) t set h l words
 
-abbrev pub finishOf : List ℕ → Settings → Here → With Turn → With Out
-finishOf t set h w = beside (finishIf w.it.done t set h w.it.loc w.words) w.history
+abbrev pub finish_of : List ℕ → Settings → Here → With Turn → With Out
+finish_of t set h w = beside (finish_if w.it.done t set h w.it.loc w.words) w.history

@@ -1,10 +1,10 @@
 // A cutoff: bonus and malus, and the store.
 ghost use Rattle.std.specs.Prelude.{◌≡◌, true, ℕ, ◌≤◌, ◌<◌, pos, nat_abs, length};
 ghost use Rattle.std.specs.Int.Signed.{lt_z};
-ghost use Rattle.tree.specs.Blocks.{Blocked, nodesOf};
-ghost use Rattle.moves.specs.Order.{childOf};
+ghost use Rattle.tree.specs.Blocks.{Blocked, nodes_of};
+ghost use Rattle.moves.specs.Order.{child_of};
 ghost use Rattle.carry.specs.Carry.{with};
-ghost use Rattle.leave.specs.Cutoff.{malusAt, creditOf, cutoffOf};
+ghost use Rattle.leave.specs.Cutoff.{malus_at, credit_of, cutoff_of};
 
 use carry::{Here, Loc, Turn};
 use moves::Place;
@@ -23,9 +23,9 @@ fn history_max(set: Settings) -> u16
 // The malus of the i-th move tried, if it is quiet and not the first.
 fn malus_at(tree: &[u8], history: &mut [i16], hh: u16, here: Here, c: usize, i: usize)
     requires blocked { Blocked tree.now }
-    requires c_bound { c < nodesOf tree.now }
+    requires c_bound { c < nodes_of tree.now }
     requires history_len { (length history.old ≡ 8192) × ((here.side ≤ 1) × ((here.depth ≤ 31) × (0 < hh))) }
-    ensures { history.new ≡ malusAt tree.now hh here c i history.old }
+    ensures { history.new ≡ malus_at tree.now hh here c i history.old }
 {
     if i == 0 {
         return;
@@ -39,10 +39,10 @@ fn malus_at(tree: &[u8], history: &mut [i16], hh: u16, here: Here, c: usize, i: 
 // Bonus, then the malus of each earlier move in order. The earlier moves are found again by walking the children.
 fn credit(tree: &[u8], history: &mut [i16], hh: u16, here: Here, place: Place, mv: u16, n: usize)
     requires blocked { Blocked tree.now }
-    requires node_bound { here.node < nodesOf tree.now }
-    requires by_index { (j : ℕ) → j < n → childOf tree.now here.node place j < nodesOf tree.now }
+    requires node_bound { here.node < nodes_of tree.now }
+    requires by_index { (j : ℕ) → j < n → child_of tree.now here.node place j < nodes_of tree.now }
     requires history_len { (length history.old ≡ 8192) × ((here.side ≤ 1) × ((here.depth ≤ 31) × (0 < hh))) }
-    ensures { history.new ≡ creditOf tree.now hh here place mv n history.old }
+    ensures { history.new ≡ credit_of tree.now hh here place mv n history.old }
 {
     history::bonus(history, hh, here.side, mv, here.depth as i8);
     let k = here.node;
@@ -67,11 +67,11 @@ pub fn cutoff(
     i: usize,
 ) -> Turn
     requires blocked { Blocked tree.now }
-    requires node_bound { here.node < nodesOf tree.now }
-    requires c_bound { c < nodesOf tree.now }
-    requires by_index { (j : ℕ) → j < i → childOf tree.now here.node place j < nodesOf tree.now }
+    requires node_bound { here.node < nodes_of tree.now }
+    requires c_bound { c < nodes_of tree.now }
+    requires by_index { (j : ℕ) → j < i → child_of tree.now here.node place j < nodes_of tree.now }
     requires in_bounds { (2 ≤ length words.old) × ((length history.old ≡ 8192) × ((here.side ≤ 1) × ((here.depth ≤ 31) × (lt_z (pos 0) set.hh_max ≡ true)))) }
-    ensures { with result words.new history.new ≡ cutoffOf tree.now set here place c i loc words.old history.old }
+    ensures { with result words.new history.new ≡ cutoff_of tree.now set here place c i loc words.old history.old }
 {
     let s = loc.state;
     let k = here.node;

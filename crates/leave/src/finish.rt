@@ -1,9 +1,9 @@
 // The end of a visit.
 ghost use Rattle.std.specs.Prelude.{◌≡◌, ◌≤◌, ◌<◌, length};
-ghost use Rattle.tree.specs.Blocks.{Blocked, nodesOf};
-ghost use Rattle.record.specs.Node.{inCheck};
+ghost use Rattle.tree.specs.Blocks.{Blocked, nodes_of};
+ghost use Rattle.record.specs.Node.{in_check};
 ghost use Rattle.state.specs.State.{over};
-ghost use Rattle.leave.specs.Finish.{gameEnd, finishIf, storedOf, boundOf};
+ghost use Rattle.leave.specs.Finish.{game_end, finish_if, stored_of, bound_of};
 
 use carry::{Here, Loc, Turn};
 use record::node;
@@ -14,9 +14,9 @@ use transposition::Bound;
 // -INF + ply in check, else 0.
 fn game_end(tree: &[u8], set: Settings, here: Here) -> i16
     requires blocked { Blocked tree.now }
-    requires node_bound { here.node < nodesOf tree.now }
+    requires node_bound { here.node < nodes_of tree.now }
     requires ply_bound { here.ply ≤ 32767 }
-    ensures { result ≡ gameEnd (inCheck tree.now here.node) set.inf here.ply }
+    ensures { result ≡ game_end (in_check tree.now here.node) set.inf here.ply }
 {
     let k = here.node;
     if node::in_check(tree, k) {
@@ -27,7 +27,7 @@ fn game_end(tree: &[u8], set: Settings, here: Here) -> i16
 
 // Exact if the best score exceeds the alpha of entry, else Upper.
 fn bound_of(here: Here, loc: Loc) -> Bound
-    ensures { result ≡ boundOf here loc }
+    ensures { result ≡ bound_of here loc }
 {
     if here.old < loc.best {
         Bound::Exact
@@ -39,9 +39,9 @@ fn bound_of(here: Here, loc: Loc) -> Bound
 // The best score is stored, and alpha is the answer.
 fn store_best(tree: &[u8], words: &mut [u64], set: Settings, here: Here, loc: Loc) -> Out
     requires blocked { Blocked tree.now }
-    requires node_bound { here.node < nodesOf tree.now }
+    requires node_bound { here.node < nodes_of tree.now }
     requires in_bounds { (2 ≤ length words.old) × (here.depth ≤ 31) }
-    ensures { over result words.new ≡ storedOf tree.now set here loc words.old }
+    ensures { over result words.new ≡ stored_of tree.now set here loc words.old }
 {
     let s = loc.state;
     let k = here.node;
@@ -62,9 +62,9 @@ fn store_best(tree: &[u8], words: &mut [u64], set: Settings, here: Here, loc: Lo
 // The cutoff's score, the end of the game, or alpha, with the best score stored.
 pub fn finish(tree: &[u8], words: &mut [u64], set: Settings, here: Here, w: Turn) -> Out
     requires blocked { Blocked tree.now }
-    requires node_bound { here.node < nodesOf tree.now }
+    requires node_bound { here.node < nodes_of tree.now }
     requires in_bounds { (2 ≤ length words.old) × ((here.depth ≤ 31) × (here.ply ≤ 32767)) }
-    ensures { over result words.new ≡ finishIf w.done tree.now set here w.loc words.old }
+    ensures { over result words.new ≡ finish_if w.done tree.now set here w.loc words.old }
 {
     let loc = w.loc;
     let s = loc.state;

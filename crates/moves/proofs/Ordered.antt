@@ -8,61 +8,61 @@ use lib.Dec.{eqb, leb}
 use borrow.Author.Tests.{eq-eqb, ne_eqb, le-leb, lt-leb}
 use Rattle.tree.specs.Pick.{pick}
 use Rattle.record.specs.Node.{move_of}
-use Rattle.moves.specs.Order.{scan, placeOf, order_at, pickPlace}
+use Rattle.moves.specs.Order.{scan, place_of, order_at, pick_place}
 use Rattle.moves.specs.declared.Place.{Place}
 use Rattle.moves.specs.declared.Place.TheVariants.{At, Nowhere}
 
 module _ (t : List ℕ) (first hint count i : ℕ) where
-  pub scan-over : count ≤ i → scan t first hint i (count - i) ≡ Nowhere
+  pub scan_over : count ≤ i → scan t first hint i (count - i) ≡ Nowhere
   unfolding scan
-  scan-over h = let e : count - i ≡ 0 = omega arith in ap (scan t first hint i) e
+  scan_over h = let e : count - i ≡ 0 = omega arith in ap (scan t first hint i) e
 
-  step : i < count → scan t first hint i (count - i) ≡ pickPlace (eqb (move_of t (first + i)) hint) (At i) (scan t first hint (i + 1) (count - (i + 1)))
+  step : i < count → scan t first hint i (count - i) ≡ pick_place (eqb (move_of t (first + i)) hint) (At i) (scan t first hint (i + 1) (count - (i + 1)))
   unfolding scan
   step h = let e : count - i ≡ suc (count - (i + 1)) = omega arith in ap (scan t first hint i) e
 
-  pub scan-found : i < count → move_of t (first + i) ≡ hint → scan t first hint i (count - i) ≡ At i
-  scan-found h q = step h ∙ rw (eq-eqb (move_of t (first + i)) hint q)
+  pub scan_found : i < count → move_of t (first + i) ≡ hint → scan t first hint i (count - i) ≡ At i
+  scan_found h q = step h ∙ rw (eq-eqb (move_of t (first + i)) hint q)
 
-  pub scan-passed : i < count → (move_of t (first + i) ≡ hint → ⊥) → scan t first hint i (count - i) ≡ scan t first hint (i + 1) (count - (i + 1))
-  scan-passed h q = step h ∙ rw (ne_eqb (move_of t (first + i)) hint q)
+  pub scan_passed : i < count → (move_of t (first + i) ≡ hint → ⊥) → scan t first hint i (count - i) ≡ scan t first hint (i + 1) (count - (i + 1))
+  scan_passed h q = step h ∙ rw (ne_eqb (move_of t (first + i)) hint q)
 
-pub place_none : (t : List ℕ) (first count hint : ℕ) → hint ≡ 0 → placeOf t first count hint ≡ Nowhere
-unfolding placeOf
+pub place_none : (t : List ℕ) (first count hint : ℕ) → hint ≡ 0 → place_of t first count hint ≡ Nowhere
+unfolding place_of
 place_none t first count hint z = rw (eq-eqb hint 0 z)
 
-pub place-scan : (t : List ℕ) (first count hint : ℕ) → (hint ≡ 0 → ⊥) → placeOf t first count hint ≡ scan t first hint 0 count
-unfolding placeOf
-place-scan t first count hint z = rw (ne_eqb hint 0 z)
+pub place_scan : (t : List ℕ) (first count hint : ℕ) → (hint ≡ 0 → ⊥) → place_of t first count hint ≡ scan t first hint 0 count
+unfolding place_of
+place_scan t first count hint z = rw (ne_eqb hint 0 z)
 
 -- a place among n children
 pub data Among (n : ℕ) : Place → Type 0 where
   among : {p : ℕ} → p < n → Among n (At p)
   nowhere : Among n Nowhere
 
-among-pick : (n i : ℕ) (b : Bool) (q : Place) → i < n → Among n q → Among n (pickPlace b (At i) q)
-among-pick n i true q h a = among h
-among-pick n i false q h a = a
+among_pick : (n i : ℕ) (b : Bool) (q : Place) → i < n → Among n q → Among n (pick_place b (At i) q)
+among_pick n i true q h a = among h
+among_pick n i false q h a = a
 
-scan-among : (t : List ℕ) (first hint i m n : ℕ) → i + m ≤ n → Among n (scan t first hint i m)
+scan_among : (t : List ℕ) (first hint i m n : ℕ) → i + m ≤ n → Among n (scan t first hint i m)
 unfolding scan
-scan-among t first hint i zero n h = nowhere
-scan-among t first hint i (suc m) n h =
-    among-pick n i (eqb (move_of t (first + i)) hint) (scan t first hint (i + 1) m) (omega arith) (scan-among t first hint (i + 1) m n (omega arith))
+scan_among t first hint i zero n h = nowhere
+scan_among t first hint i (suc m) n h =
+    among_pick n i (eqb (move_of t (first + i)) hint) (scan t first hint (i + 1) m) (omega arith) (scan_among t first hint (i + 1) m n (omega arith))
 
-pub place-among : (t : List ℕ) (first count hint : ℕ) → Among count (placeOf t first count hint)
-unfolding placeOf
-place-among t first count hint = go (eqb hint 0)
+pub place_among : (t : List ℕ) (first count hint : ℕ) → Among count (place_of t first count hint)
+unfolding place_of
+place_among t first count hint = go (eqb hint 0)
   where
-    go : (b : Bool) → Among count (pickPlace b Nowhere (scan t first hint 0 count))
+    go : (b : Bool) → Among count (pick_place b Nowhere (scan t first hint 0 count))
     go true = nowhere
-    go false = scan-among t first hint 0 count count (omega arith)
+    go false = scan_among t first hint 0 count count (omega arith)
 
 -- the i-th move tried is one of the n children
-pub order-among : (n i : ℕ) (p : Place) → Among n p → i < n → order_at p i < n
+pub order_among : (n i : ℕ) (p : Place) → Among n p → i < n → order_at p i < n
 unfolding order_at
-order-among n i Nowhere a h = h
-order-among n i (At p) (among q) h = go (eqb i 0) (leb i p)
+order_among n i Nowhere a h = h
+order_among n i (At p) (among q) h = go (eqb i 0) (leb i p)
   where
     go : (a b : Bool) → pick a p (pick b (i - 1) i) < n
     go true b = q
@@ -71,14 +71,14 @@ order-among n i (At p) (among q) h = go (eqb i 0) (leb i p)
 
 -- the order, by its tests
 module _ (p i : ℕ) where
-  pub order-first : i ≡ 0 → p ≡ order_at (At p) i
+  pub order_first : i ≡ 0 → p ≡ order_at (At p) i
   unfolding order_at
-  order-first z = rw (eq-eqb i 0 z)
+  order_first z = rw (eq-eqb i 0 z)
 
-  pub order-before : (i ≡ 0 → ⊥) → i ≤ p → i - 1 ≡ order_at (At p) i
+  pub order_before : (i ≡ 0 → ⊥) → i ≤ p → i - 1 ≡ order_at (At p) i
   unfolding order_at
-  order-before z l = rw (ne_eqb i 0 z, le-leb i p l)
+  order_before z l = rw (ne_eqb i 0 z, le-leb i p l)
 
-  pub order-behind : (i ≡ 0 → ⊥) → p < i → i ≡ order_at (At p) i
+  pub order_behind : (i ≡ 0 → ⊥) → p < i → i ≡ order_at (At p) i
   unfolding order_at
-  order-behind z l = rw (ne_eqb i 0 z, lt-leb i p l)
+  order_behind z l = rw (ne_eqb i 0 z, lt-leb i p l)

@@ -1,7 +1,7 @@
 // The order of the moves: the hint's first, the rest as stored.
 ghost use Rattle.std.specs.Prelude.{◌≡◌, ◌+◌, ◌≤◌, ◌<◌};
-ghost use Rattle.tree.specs.Blocks.{Blocked, nodesOf};
-ghost use Rattle.moves.specs.Order.{placeOf, order_at, childOf};
+ghost use Rattle.tree.specs.Blocks.{Blocked, nodes_of};
+ghost use Rattle.moves.specs.Order.{place_of, order_at, child_of};
 
 use record::node;
 
@@ -15,8 +15,8 @@ pub enum Place {
 // The place of the first child whose move equals the hint; a hint of 0 is none.
 pub fn place_of(tree: &[u8], first: usize, count: usize, hint: u16) -> Place
     requires blocked { Blocked tree.now }
-    requires count_bound { first + count ≤ nodesOf tree.now }
-    ensures { result ≡ placeOf tree.now first count hint }
+    requires count_bound { first + count ≤ nodes_of tree.now }
+    ensures { result ≡ place_of tree.now first count hint }
 {
     if hint == 0 {
         return Place::Nowhere;
@@ -53,9 +53,9 @@ pub fn order_at(place: Place, i: usize) -> usize
 // The node that the i-th move to be tried leads to.
 pub fn child(tree: &[u8], k: usize, place: Place, i: usize) -> usize
     requires blocked { Blocked tree.now }
-    requires k_bound { k < nodesOf tree.now }
-    requires i_bound { childOf tree.now k place i < nodesOf tree.now }
-    ensures { result ≡ childOf tree.now k place i }
+    requires k_bound { k < nodes_of tree.now }
+    requires i_bound { child_of tree.now k place i < nodes_of tree.now }
+    ensures { result ≡ child_of tree.now k place i }
 {
     node::first_child(tree, k) + order_at(place, i)
 }

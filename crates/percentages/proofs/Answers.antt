@@ -6,14 +6,14 @@ use Rattle.percentages.specs.Rate.{Said, said}
 use Rattle.percentages.specs.declared.rates.Rate.{Rate}
 use Rattle.percentages.specs.declared.rates.Rate.TheVariants.{Share, NoLookups, Refused}
 
-pub said-tells : (a b : Rate) → said a ≡ said b → a ≡ b
+pub said_tells : (a b : Rate) → said a ≡ said b → a ≡ b
 unfolding said
-said-tells (Share x) (Share y) e = ap Share (ap (λ (s : Said). s.share) e)
-said-tells (Share x) NoLookups e = absurd (true≢false (ap (λ (s : Said). s.looked) e))
-said-tells (Share x) Refused e = absurd (true≢false (ap (λ (s : Said). s.looked) e))
-said-tells NoLookups (Share y) e = absurd (false≢true (ap (λ (s : Said). s.looked) e))
-said-tells NoLookups NoLookups e = refl
-said-tells NoLookups Refused e = let n = ap (λ (s : Said). s.number) e in absurd (omega arith)
-said-tells Refused (Share y) e = absurd (false≢true (ap (λ (s : Said). s.looked) e))
-said-tells Refused NoLookups e = let n = ap (λ (s : Said). s.number) e in absurd (omega arith)
-said-tells Refused Refused e = refl
+said_tells (Share x) (Share y) e = ap Share (ap (λ (s : Said). s.share) e)
+said_tells (Share x) NoLookups e = absurd (true≢false (ap (λ (s : Said). s.looked) e))
+said_tells (Share x) Refused e = absurd (true≢false (ap (λ (s : Said). s.looked) e))
+said_tells NoLookups (Share y) e = absurd (false≢true (ap (λ (s : Said). s.looked) e))
+said_tells NoLookups NoLookups e = refl
+said_tells NoLookups Refused e = let n = ap (λ (s : Said). s.number) e in absurd (omega arith)
+said_tells Refused (Share y) e = absurd (false≢true (ap (λ (s : Said). s.looked) e))
+said_tells Refused NoLookups e = let n = ap (λ (s : Said). s.number) e in absurd (omega arith)
+said_tells Refused Refused e = refl

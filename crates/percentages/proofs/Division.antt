@@ -22,15 +22,15 @@ cross x y a b u v p q =
     ∙ ap (λ (z : ℕ). a * z) (mul_comm (u * v) b ∙ ap (λ (z : ℕ). b * z) (mul_comm u v) ∙ sym (mul_assoc b v u)) ∙ ap (λ (z : ℕ). a * (z * u)) (sym (sym (mul-one y) ∙ q))
 
 -- floats that are whole numbers a and b, divided, are a / b rounded once
-div-at : (f : Format) (x y : Float) (a b : ℕ) → 0 < b → HasValue x false a 1 → HasValue y false b 1 → div f x y ≡ round f false a b
+div_at : (f : Format) (x y : Float) (a b : ℕ) → 0 < b → HasValue x false a 1 → HasValue y false b 1 → div f x y ≡ round f false a b
 unfolding div
-div-at f nan y a b B h k = absurd h
-div-at f (inf s) y a b B h k = absurd h
-div-at f (fin s m e) nan a b B h k = absurd k
-div-at f (fin s m e) (inf t) a b B h k = absurd k
-div-at f (fin true m e) (fin t n d) a b B h k = absurd (true≢false h.0)
-div-at f (fin false m e) (fin true n d) a b B h k = absurd (true≢false k.0)
-div-at f (fin false m e) (fin false n d) a b B h k =
+div_at f nan y a b B h k = absurd h
+div_at f (inf s) y a b B h k = absurd h
+div_at f (fin s m e) nan a b B h k = absurd k
+div_at f (fin s m e) (inf t) a b B h k = absurd k
+div_at f (fin true m e) (fin t n d) a b B h k = absurd (true≢false h.0)
+div_at f (fin false m e) (fin true n d) a b B h k = absurd (true≢false k.0)
+div_at f (fin false m e) (fin false n d) a b B h k =
     simp (ne_eqb n 0 not-zero)
     (round_same f false (m * up e * down d) (n * up d * down e) a b (mul-pos (mul-pos (above n not-zero) (up_pos d)) (down_pos e)) B (cross (m * up e) (n * up d) a b (down e) (down d) h.1 k.1))
   where
@@ -47,7 +47,7 @@ div-at f (fin false m e) (fin false n d) a b B h k =
 -- a whole number up to 2^53 is a float, so casting rounds nothing and the division is the one rounding
 pub quotient_is : (a b : ℕ) → a ≤ 2 ^ 53 → 0 < b → b ≤ 2 ^ 53 → div binary64 (of_int binary64 (pos a)) (of_int binary64 (pos b)) ≡ round binary64 false a b
 unfolding of_int
-quotient_is a b ha B hb = div-at binary64 (round binary64 false a 1) (round binary64 false b 1) a b B (round_whole binary64 false a ha) (round_whole binary64 false b hb)
+quotient_is a b ha B hb = div_at binary64 (round binary64 false a 1) (round binary64 false b 1) a b B (round_whole binary64 false a ha) (round_whole binary64 false b hb)
 
 -- over a power of two, a whole number below 2^53 loses nothing
 pub exact : (n a : ℕ) → TwoPower n → a < 2 ^ 53 → HasValue (round binary64 false a n) false a n

@@ -17,32 +17,32 @@ more c Lower = record { exact = c.exact; lower = c.lower + 1; upper = c.upper }
 more c Upper = record { exact = c.exact; lower = c.lower; upper = c.upper + 1 }
 
 -- 01, Entry and table: "the entries of each bound whose move isn't 0"
-abbrev pub withEntry : Counts → Entry → Counts
-withEntry c e = cond (eqb e.mv 0) c (more c e.bound)
+abbrev pub with_entry : Counts → Entry → Counts
+with_entry c e = cond (eqb e.mv 0) c (more c e.bound)
 
 -- over the first k slots
-unfoldable pub countsTo : List ℕ → ℕ → Counts
-countsTo words zero = record { exact = 0; lower = 0; upper = 0 }
-countsTo words (suc k) = withEntry (countsTo words k) (entry_of (get_or words (k * 2 + 1) 0))
+unfoldable pub counts_to : List ℕ → ℕ → Counts
+counts_to words zero = record { exact = 0; lower = 0; upper = 0 }
+counts_to words (suc k) = with_entry (counts_to words k) (entry_of (get_or words (k * 2 + 1) 0))
 
 -- over the whole table, of n slots
 abbrev pub slots : List ℕ → ℕ
 slots words = length words / 2
 
-abbrev pub countsOf : List ℕ → Counts
-countsOf words = countsTo words (slots words)
+abbrev pub counts_of : List ℕ → Counts
+counts_of words = counts_to words (slots words)
 
 -- 01, Entry and table: "Occupancy is a record of three percentages, the entries of each bound whose move isn't 0, times 100 over n."
-unfoldable pub occupancyOf : List ℕ → Occupancy
-occupancyOf words =
+unfoldable pub occupancy_of : List ℕ → Occupancy
+occupancy_of words =
     record {
-      exact = round binary64 false ((countsOf words).exact * 100) (slots words);
-      lower = round binary64 false ((countsOf words).lower * 100) (slots words);
-      upper = round binary64 false ((countsOf words).upper * 100) (slots words);
+      exact = round binary64 false ((counts_of words).exact * 100) (slots words);
+      lower = round binary64 false ((counts_of words).lower * 100) (slots words);
+      upper = round binary64 false ((counts_of words).upper * 100) (slots words);
     }
 
 -- 01, Entry and table: "They are exact in f64, since n is a power of two.": each field is, as a number, its count times 100 over n
 pub record Exactly (words : List ℕ) (o : Occupancy) : Type 0 where
-  pub exact : HasValue o.exact false ((countsOf words).exact * 100) (slots words)
-  pub lower : HasValue o.lower false ((countsOf words).lower * 100) (slots words)
-  pub upper : HasValue o.upper false ((countsOf words).upper * 100) (slots words)
+  pub exact : HasValue o.exact false ((counts_of words).exact * 100) (slots words)
+  pub lower : HasValue o.lower false ((counts_of words).lower * 100) (slots words)
+  pub upper : HasValue o.upper false ((counts_of words).upper * 100) (slots words)

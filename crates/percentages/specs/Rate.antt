@@ -16,21 +16,21 @@ abbrev pub refusal : Said
 refusal = record { number = 11; looked = false; share = fin false 0 (pos 0) }
 
 -- 01, Entry and table: "the news that nothing was looked up"
-abbrev pub noShare : Said
-noShare = record { number = 0; looked = false; share = fin false 0 (pos 0) }
+abbrev pub no_share : Said
+no_share = record { number = 0; looked = false; share = fin false 0 (pos 0) }
 
-abbrev pub aShare : Float → Said
-aShare x = record { number = 0; looked = true; share = x }
+abbrev pub a_share : Float → Said
+a_share x = record { number = 0; looked = true; share = x }
 
 -- what each case of the answer says
 unfoldable pub said : Rate → Said
-said (Share x) = aShare x
-said NoLookups = noShare
+said (Share x) = a_share x
+said NoLookups = no_share
 said Refused = refusal
 
 -- 01, row 11: "a rate's count or lookups over 2^40"; then "either a share or the news that nothing was looked up", where the share is
 -- "count times 100 over lookups, rounded once"
-unfoldable pub rateOf : ℕ → ℕ → Said
-rateOf count lookups =
+unfoldable pub rate_of : ℕ → ℕ → Said
+rate_of count lookups =
     cond (ltb (2 ^ 40) count || ltb (2 ^ 40) lookups) refusal
-    (cond (eqb lookups 0) noShare (aShare (round binary64 false (count * 100) lookups)))
+    (cond (eqb lookups 0) no_share (a_share (round binary64 false (count * 100) lookups)))

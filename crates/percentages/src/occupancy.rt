@@ -1,7 +1,7 @@
 // Occupancy: the entries of each bound whose move is not 0, as percentages of the table.
 ghost use Rattle.std.specs.Prelude.{◌≡◌, true, ◌+◌, ◌/◌, ◌≤◌, ◌<◌, ◌^◌, length};
-ghost use Rattle.table.specs.Table.{wellSized};
-ghost use Rattle.percentages.specs.Occupancy.{more, countsTo, occupancyOf, Exactly};
+ghost use Rattle.table.specs.Table.{well_sized};
+ghost use Rattle.percentages.specs.Occupancy.{more, counts_to, occupancy_of, Exactly};
 
 use transposition::Bound;
 
@@ -46,7 +46,7 @@ impl Counts {
 
 // The count over the table.
 fn counted(words: &[u64]) -> Counts
-    ensures { result ≡ countsTo words.now (length words.now / 2) }
+    ensures { result ≡ counts_to words.now (length words.now / 2) }
 {
     let mut c = Counts {
         exact: 0,
@@ -68,8 +68,8 @@ fn counted(words: &[u64]) -> Counts
 
 // The three percentages, each of them exact, since the table's size is a power of two.
 pub fn occupied(words: &[u64]) -> Occupancy
-    requires { wellSized (length words.now) ≡ true }
-    ensures fact_1 { result ≡ occupancyOf words.now }
+    requires { well_sized (length words.now) ≡ true }
+    ensures fact_1 { result ≡ occupancy_of words.now }
     ensures fact_2 { Exactly words.now result }
 {
     let c = counted(words);

@@ -4,7 +4,7 @@ use Rattle.table.specs.declared.Stats.{Stats}
 use Rattle.record.specs.Bytes.{le}
 use Rattle.state.specs.declared.Settings.{Settings}
 use Rattle.desk.specs.declared.node_search.Start.{Start}
-use Rattle.probe_input.specs.Fields.{byte_at, signed8At, signed16At}
+use Rattle.probe_input.specs.Fields.{byte_at, signed8_at, signed16_at}
 use Rattle.probe_input.specs.declared.input.Sent.{Sent}
 use Rattle.probe.specs.declared.header.Header.{Header}
 
@@ -12,12 +12,12 @@ use Rattle.probe.specs.declared.header.Header.{Header}
 abbrev pub odd : ℕ → Bool
 odd x = eqb (x % 2) 1
 
-unfoldable pub settingsOf : List ℕ → Settings
-settingsOf s =
+unfoldable pub settings_of : List ℕ → Settings
+settings_of s =
     record {
-      inf = signed16At s 2;
+      inf = signed16_at s 2;
       max_ply = le s 4 2;
-      hh_max = signed16At s 6;
+      hh_max = signed16_at s 6;
       side = byte_at s 8;
       limit = le s 16 8;
       table = odd (byte_at s 1);
@@ -28,8 +28,8 @@ settingsOf s =
       inner_deepening = odd (byte_at s 1 / 32);
     }
 
-unfoldable pub statsOf : List ℕ → Stats
-statsOf s =
+unfoldable pub stats_of : List ℕ → Stats
+stats_of s =
     record {
       age = byte_at s 11;
       lookups = le s 40 8;
@@ -41,35 +41,35 @@ statsOf s =
 
 unfoldable pub start_of : List ℕ → Start
 start_of s =
-    record { node = le s 24 8; alpha = signed16At s 12; beta = signed16At s 14; depth = signed8At s 9; ply = le s 32 8 }
+    record { node = le s 24 8; alpha = signed16_at s 12; beta = signed16_at s 14; depth = signed8_at s 9; ply = le s 32 8 }
 
 -- bits 0 and 1 of byte 92 say that the words and the entries are not sent
-unfoldable pub sentOf : List ℕ → Sent
-sentOf s = record { words = not (odd (byte_at s 92)); entries = not (odd (byte_at s 92 / 2)) }
+unfoldable pub sent_of : List ℕ → Sent
+sent_of s = record { words = not (odd (byte_at s 92)); entries = not (odd (byte_at s 92 / 2)) }
 
-unfoldable pub headerOf : List ℕ → Header
-headerOf s =
+unfoldable pub header_of : List ℕ → Header
+header_of s =
     record {
       kind = byte_at s 0;
-      «set» = settingsOf s;
-      stats = statsOf s;
+      «set» = settings_of s;
+      stats = stats_of s;
       at = start_of s;
-      start = signed8At s 9;
-      end = signed8At s 10;
+      start = signed8_at s 9;
+      end = signed8_at s 10;
       tree = le s 80 4;
       words = le s 84 4;
       entries = le s 88 4;
       steps = le s 94 2;
-      sent = sentOf s;
+      sent = sent_of s;
     }
 
 -- a known kind, and no steps but in a script
-unfoldable pub kindRight : Header → Bool
-kindRight h = leb 1 h.kind && leb h.kind 7 && (ltb 4 h.kind || eqb h.steps 0)
+unfoldable pub kind_right : Header → Bool
+kind_right h = leb 1 h.kind && leb h.kind 7 && (ltb 4 h.kind || eqb h.steps 0)
 
 -- no length over its maximum
-unfoldable pub lengthsRight : Header → Bool
-lengthsRight h = leb h.tree 66048 && leb h.words 131074 && leb h.entries 8193 && leb h.steps 4096
+unfoldable pub lengths_right : Header → Bool
+lengths_right h = leb h.tree 66048 && leb h.words 131074 && leb h.entries 8193 && leb h.steps 4096
 
-unfoldable pub headerRight : Header → Bool
-headerRight h = kindRight h && lengthsRight h
+unfoldable pub header_right : Header → Bool
+header_right h = kind_right h && lengths_right h

@@ -1,7 +1,7 @@
 // A request's header of 96 bytes.
 ghost use Rattle.std.specs.Prelude.{◌≡◌, ◌+◌, ◌≤◌};
-ghost use Rattle.probe_input.specs.Fields.{signed16At};
-ghost use Rattle.probe.specs.Header.{odd, settingsOf, statsOf, start_of, sentOf, headerOf, kindRight, lengthsRight, headerRight};
+ghost use Rattle.probe_input.specs.Fields.{signed16_at};
+ghost use Rattle.probe.specs.Header.{odd, settings_of, stats_of, start_of, sent_of, header_of, kind_right, lengths_right, header_right};
 
 use desk::node_search::Start;
 use probe_input::input::Sent;
@@ -35,13 +35,13 @@ fn bit(x: u8) -> bool
 
 fn signed16(head: &[u8; 96], at: usize) -> i16
     requires { at + 2 ≤ 96 }
-    ensures { result ≡ signed16At head.now at }
+    ensures { result ≡ signed16_at head.now at }
 {
     score::of_bits16(bytes::le16(head, at))
 }
 
 fn settings_of(head: &[u8; 96]) -> Settings
-    ensures { result ≡ settingsOf head.now }
+    ensures { result ≡ settings_of head.now }
 {
     let switches = head[1];
     Settings {
@@ -60,7 +60,7 @@ fn settings_of(head: &[u8; 96]) -> Settings
 }
 
 fn stats_of(head: &[u8; 96]) -> Stats
-    ensures { result ≡ statsOf head.now }
+    ensures { result ≡ stats_of head.now }
 {
     Stats {
         age: head[11],
@@ -85,7 +85,7 @@ fn start_of(head: &[u8; 96]) -> Start
 }
 
 fn sent_of(head: &[u8; 96]) -> Sent
-    ensures { result ≡ sentOf head.now }
+    ensures { result ≡ sent_of head.now }
 {
     Sent {
         words: !bit(head[92]),
@@ -94,7 +94,7 @@ fn sent_of(head: &[u8; 96]) -> Sent
 }
 
 pub fn read(head: &[u8; 96]) -> Header
-    ensures { result ≡ headerOf head.now }
+    ensures { result ≡ header_of head.now }
 {
     Header {
         kind: head[0],
@@ -113,7 +113,7 @@ pub fn read(head: &[u8; 96]) -> Header
 
 // A known kind, and steps in a script alone.
 fn kind_right(h: Header) -> bool
-    ensures { result ≡ kindRight h }
+    ensures { result ≡ kind_right h }
 {
     if h.kind < 1 {
         return false;
@@ -129,7 +129,7 @@ fn kind_right(h: Header) -> bool
 
 // No length over its maximum.
 fn lengths_right(h: Header) -> bool
-    ensures { result ≡ lengthsRight h }
+    ensures { result ≡ lengths_right h }
 {
     if h.tree > 66048 {
         return false;
@@ -144,7 +144,7 @@ fn lengths_right(h: Header) -> bool
 }
 
 pub fn right(h: Header) -> bool
-    ensures { result ≡ headerRight h }
+    ensures { result ≡ header_right h }
 {
     if !kind_right(h) {
         return false;

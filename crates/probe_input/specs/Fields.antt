@@ -8,8 +8,8 @@ abbrev pub byte_at : List ℕ → ℕ → ℕ
 byte_at s at = get_or s at 0
 
 -- a signed field of two bytes, of one
-abbrev pub signed16At : List ℕ → ℕ → ℤ
-signed16At s at = signed_of w16 (le s at 2)
+abbrev pub signed16_at : List ℕ → ℕ → ℤ
+signed16_at s at = signed_of w16 (le s at 2)
 
-abbrev pub signed8At : List ℕ → ℕ → ℤ
-signed8At s at = signed_of w8 (byte_at s at)
+abbrev pub signed8_at : List ℕ → ℕ → ℤ
+signed8_at s at = signed_of w8 (byte_at s at)

@@ -1,6 +1,6 @@
 // Reading whole parts of standard input.
 ghost use Rattle.std.specs.Prelude.{◌≡◌, ◌+◌, ◌≤◌, min, length};
-ghost use Rattle.probe_input.specs.Sent.{wordsFrom, entriesFrom};
+ghost use Rattle.probe_input.specs.Sent.{words_from, entries_from};
 
 use libc::STDIN_FILENO;
 use record::bytes;
@@ -62,7 +62,7 @@ fn least(a: usize, b: usize) -> usize
 // The n words that a chunk of bytes holds, put into words from `at` on.
 fn decode_words(chunk: &[u8; 4096], n: usize, words: &mut [u64], at: usize)
     requires { (n ≤ 512) × (at + n ≤ length words.old) }
-    ensures { words.new ≡ wordsFrom chunk.now words.old at n }
+    ensures { words.new ≡ words_from chunk.now words.old at n }
 {
     let mut i = 0;
     while i < n {
@@ -99,7 +99,7 @@ fn fill_words(words: &mut [u64]) -> Filled {
 // The same of entries.
 fn decode_entries(chunk: &[u8; 4096], n: usize, entries: &mut [i16], at: usize)
     requires { (n ≤ 2048) × (at + n ≤ length entries.old) }
-    ensures { entries.new ≡ entriesFrom chunk.now entries.old at n }
+    ensures { entries.new ≡ entries_from chunk.now entries.old at n }
 {
     let mut i = 0;
     while i < n {

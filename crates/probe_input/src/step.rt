@@ -1,6 +1,6 @@
 // A script's step of 24 bytes.
 ghost use Rattle.std.specs.Prelude.{◌≡◌, ◌+◌, ◌*◌, ◌≤◌, length};
-ghost use Rattle.probe_input.specs.Step.{stepAt};
+ghost use Rattle.probe_input.specs.Step.{step_at};
 
 use record::bytes;
 
@@ -18,7 +18,7 @@ pub struct Step {
 // The i-th step of a script.
 pub fn at(steps: &[u8], i: usize) -> Step
     requires { 24 * i + 24 ≤ length steps.now }
-    ensures { result ≡ stepAt steps.now i }
+    ensures { result ≡ step_at steps.now i }
 {
     let k = 24 * i;
     Step {

@@ -28,13 +28,13 @@ module _ {x left times turns : ℕ} (i : Halving x left times turns) (t : 0 < tu
   uneven h = record { room = omega (arith, i.room); whole = i.whole; state = inl (omega arith) }
 
 -- a number of 53 bits that is halved 53 times is 0
-all-halved : (x left times : ℕ) → x < 2 ^ 53 → times ≡ 53 → left * 2 ^ times ≡ x → 0 < x → ⊥
-all-halved x left times b e w p = let z : left * 2 ^ 53 ≡ x = subst (λ (k : ℕ). left * 2 ^ k ≡ x) e w in omega arith
+all_halved : (x left times : ℕ) → x < 2 ^ 53 → times ≡ 53 → left * 2 ^ times ≡ x → 0 < x → ⊥
+all_halved x left times b e w p = let z : left * 2 ^ 53 ≡ x = subst (λ (k : ℕ). left * 2 ^ k ≡ x) e w in omega arith
 
 module _ {x left times : ℕ} (b : x < 2 ^ 53) (i : Halving x left times 0) where
   left-odd : (left % 2 ≡ 1) ⊎ (times + 0 ≡ 53) → 0 < x → left % 2 ≡ 1
   left-odd (inl o) p = o
-  left-odd (inr e) p = absurd (all-halved x left times b (omega arith) i.whole p)
+  left-odd (inr e) p = absurd (all_halved x left times b (omega arith) i.whole p)
 
   pub done : Halves x left times
   done = record { few = omega (arith, i.room); whole = i.whole; odd = left-odd i.state }

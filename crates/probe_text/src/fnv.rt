@@ -1,6 +1,6 @@
 // FNV-1a, 64 bits, over little-endian bytes.
 ghost use Rattle.std.specs.Prelude.{◌≡◌, ◌*◌, ◌%◌, ◌^◌};
-ghost use Rattle.probe_text.specs.Fnv.{prime, bytesInto, ofWords, ofEntries};
+ghost use Rattle.probe_text.specs.Fnv.{prime, bytes_into, of_words, of_entries};
 
 const BASIS: u64 = 14695981039346656037;
 
@@ -16,7 +16,7 @@ fn times_prime(x: u64) -> u64
 
 // The sum after the n low bytes of x.
 fn after(sum: u64, x: u64, n: usize) -> u64
-    ensures { result ≡ bytesInto sum x n }
+    ensures { result ≡ bytes_into sum x n }
 {
     let mut s = sum;
     let mut rest = x;
@@ -30,7 +30,7 @@ fn after(sum: u64, x: u64, n: usize) -> u64
 }
 
 pub fn of_words(words: &[u64]) -> u64
-    ensures { result ≡ ofWords words.now }
+    ensures { result ≡ of_words words.now }
 {
     let mut s = BASIS;
     let mut i = 0;
@@ -42,7 +42,7 @@ pub fn of_words(words: &[u64]) -> u64
 }
 
 pub fn of_entries(entries: &[i16]) -> u64
-    ensures { result ≡ ofEntries entries.now }
+    ensures { result ≡ of_entries entries.now }
 {
     let mut s = BASIS;
     let mut i = 0;

@@ -1,7 +1,7 @@
 // The line that the program answers a tree with: 01's settings, the search with them, and the printing.
 ghost use Rattle.std.specs.Prelude.{◌≡◌, take};
 ghost use Rattle.io.specs.Counts.{IsPrefixLen};
-ghost use Rattle.program.specs.Program.{programSettings, freshStats, programEntry, programLine};
+ghost use Rattle.program.specs.Program.{program_settings, fresh_stats, program_entry, program_line};
 
 use desk::root_search;
 use libc::STDOUT_FILENO;
@@ -10,7 +10,7 @@ use state::Settings;
 use table::Stats;
 
 pub fn settings() -> Settings
-    ensures { result ≡ programSettings }
+    ensures { result ≡ program_settings }
 {
     Settings {
         inf: 30000,
@@ -28,7 +28,7 @@ pub fn settings() -> Settings
 }
 
 pub fn fresh() -> Stats
-    ensures { result ≡ freshStats }
+    ensures { result ≡ fresh_stats }
 {
     Stats {
         age: 0,
@@ -42,7 +42,7 @@ pub fn fresh() -> Stats
 
 // Depths 1 to 30, over a table of 4,096 entries and a history of its own.
 pub fn search(tree: &[u8]) -> RootResult
-    ensures { result ≡ (programEntry tree.now).it }
+    ensures { result ≡ (program_entry tree.now).it }
 {
     let mut words = [0u64; 8192];
     let mut history = [0i16; 8192];
@@ -52,7 +52,7 @@ pub fn search(tree: &[u8]) -> RootResult
 // The line that answers a tree, at the start of out; how many bytes it has.
 pub fn answer(tree: &[u8], out: &mut [u8; 160]) -> usize
     ensures prefix_len { IsPrefixLen result out.new }
-    ensures out_after { take result out.new ≡ programLine tree.now }
+    ensures out_after { take result out.new ≡ program_line tree.now }
 {
     text::line(search(tree), out)
 }

@@ -21,21 +21,21 @@ le_split s at m (suc n) =
     (regroup (le s at m) (le s (at + m) n) (get_or s (at + m + n) 0) (256 ^ m) (256 ^ n))
 
 -- two bytes
-pub le-two : (s : List ℕ) (at : ℕ) → le s at 2 ≡ get_or s at 0 + get_or s (at + 1) 0 * 256
+pub le_two : (s : List ℕ) (at : ℕ) → le s at 2 ≡ get_or s at 0 + get_or s (at + 1) 0 * 256
 unfolding le
-le-two s at = omega (arith, ap (λ (k : ℕ). get_or s k 0) (add-zero at))
+le_two s at = omega (arith, ap (λ (k : ℕ). get_or s k 0) (add-zero at))
 
 -- a part, where its bytes are there
 module _ (s : List ℕ) (start size : ℕ) (fits : start + size ≤ length s) where
   pub part_length : length (part s start size) ≡ size
   part_length = simp (length-take, length-drop) (omega arith)
 
-  pub part-byte : (i : ℕ) → i < size → get_or (part s start size) i 0 ≡ get_or s (start + i) 0
-  part-byte i h = get_or-take size (drop start s) i 0 h ∙ get_or-drop start s i 0
+  pub part_byte : (i : ℕ) → i < size → get_or (part s start size) i 0 ≡ get_or s (start + i) 0
+  part_byte i h = get_or-take size (drop start s) i 0 h ∙ get_or-drop start s i 0
 
-  pub part-le : (at n : ℕ) → at + n ≤ size → le (part s start size) at n ≡ le s (start + at) n
+  pub part_le : (at n : ℕ) → at + n ≤ size → le (part s start size) at n ≡ le s (start + at) n
   unfolding le
-  part-le at zero h = refl
-  part-le at (suc n) h =
-      ap₂ (λ (x y : ℕ). x + y * 256 ^ n) (part-le at n (omega arith))
-      (part-byte (at + n) (omega arith) ∙ ap (λ (k : ℕ). get_or s k 0) (sym (add_assoc start at n)))
+  part_le at zero h = refl
+  part_le at (suc n) h =
+      ap₂ (λ (x y : ℕ). x + y * 256 ^ n) (part_le at n (omega arith))
+      (part_byte (at + n) (omega arith) ∙ ap (λ (k : ℕ). get_or s k 0) (sym (add_assoc start at n)))

@@ -30,13 +30,13 @@ along k x y = eqb (k % 64) 63 || leb x y
 unfoldable down : ℕ → ℕ → ℕ → Bool
 down k x y = leb x y
 
-in-range : (k : ℕ) → k < 2048 → T (range k (get_or reductions k 0) (get_or reductions k 0))
+in_range : (k : ℕ) → k < 2048 → T (range k (get_or reductions k 0) (get_or reductions k 0))
 unfolding reductions edge range
-in-range k h = at range reductions reductions tt k h h
+in_range k h = at range reductions reductions tt k h h
 
-next-along : (k : ℕ) → k + 1 < 2048 → T (along k (get_or reductions k 0) (get_or (drop 1 reductions) k 0))
+next_along : (k : ℕ) → k + 1 < 2048 → T (along k (get_or reductions k 0) (get_or (drop 1 reductions) k 0))
 unfolding reductions along
-next-along k h = at along reductions (drop 1 reductions) tt k (omega arith) (omega arith)
+next_along k h = at along reductions (drop 1 reductions) tt k (omega arith) (omega arith)
 
 next_down : (k : ℕ) → k + 64 < 2048 → T (down k (get_or reductions k 0) (get_or (drop 64 reductions) k 0))
 unfolding reductions down
@@ -46,48 +46,48 @@ unfoldable digit : ℕ → ℕ → ℕ → Bool
 digit k x y = ltb x 16
 
 -- an entry is a hex digit
-pub entry-small : (k : ℕ) → k < 2048 → get_or reductions k 0 < 16
+pub entry_small : (k : ℕ) → k < 2048 → get_or reductions k 0 < 16
 unfolding reductions digit
-entry-small k h = ltb→lt (get_or reductions k 0) 16 (at digit reductions reductions tt k h h)
+entry_small k h = ltb→lt (get_or reductions k 0) 16 (at digit reductions reductions tt k h h)
 
 pub row_zero : (m : ℕ) → m ≤ 63 → entry_of 0 m ≡ 0
 unfolding range edge
 row_zero m hm =
     let e : (0 * 64 + m) / 64 ≡ 0 = omega arith in
-    eqb→eq (entry_of 0 m) 0 (simp (eq-eqb ((0 * 64 + m) / 64) 0 e) at (in-range (0 * 64 + m) (omega arith)))
+    eqb→eq (entry_of 0 m) 0 (simp (eq-eqb ((0 * 64 + m) / 64) 0 e) at (in_range (0 * 64 + m) (omega arith)))
 
-pub column-zero : (d : ℕ) → d ≤ 31 → entry_of d 0 ≡ 0
+pub column_zero : (d : ℕ) → d ≤ 31 → entry_of d 0 ≡ 0
 unfolding range edge
-column-zero d hd = go (eqb ((d * 64 + 0) / 64) 0) refl
+column_zero d hd = go (eqb ((d * 64 + 0) / 64) 0) refl
   where
     e : (d * 64 + 0) % 64 ≡ 0
     e = omega arith
 
     go : (b : Bool) → eqb ((d * 64 + 0) / 64) 0 ≡ b → entry_of d 0 ≡ 0
-    go true q = eqb→eq (entry_of d 0) 0 (simp q at (in-range (d * 64 + 0) (omega arith)))
-    go false q = eqb→eq (entry_of d 0) 0 (simp (q, eq-eqb ((d * 64 + 0) % 64) 0 e) at (in-range (d * 64 + 0) (omega arith)))
+    go true q = eqb→eq (entry_of d 0) 0 (simp q at (in_range (d * 64 + 0) (omega arith)))
+    go false q = eqb→eq (entry_of d 0) 0 (simp (q, eq-eqb ((d * 64 + 0) % 64) 0 e) at (in_range (d * 64 + 0) (omega arith)))
 
 pub others : (d m : ℕ) → 1 ≤ d → d ≤ 31 → 1 ≤ m → m ≤ 63 → (1 ≤ entry_of d m) × (entry_of d m ≤ 6)
 unfolding range edge
 others d m pd hd pm hm =
     let a : (d * 64 + m) / 64 ≡ 0 → ⊥ = λ e. omega arith in
     let b : (d * 64 + m) % 64 ≡ 0 → ⊥ = λ e. omega arith in
-    let t = simp (ne_eqb ((d * 64 + m) / 64) 0 a, ne_eqb ((d * 64 + m) % 64) 0 b) at (in-range (d * 64 + m) (omega arith)) in
+    let t = simp (ne_eqb ((d * 64 + m) / 64) 0 a, ne_eqb ((d * 64 + m) % 64) 0 b) at (in_range (d * 64 + m) (omega arith)) in
     (leb→le 1 (entry_of d m) (and_left (leb 1 (entry_of d m)) (leb (entry_of d m) 6) t), leb→le (entry_of d m) 6 (and_right (leb 1 (entry_of d m)) (leb (entry_of d m) 6) t))
 
 pub row_step : (d m : ℕ) → d ≤ 31 → m + 1 < 64 → entry_of d m ≤ entry_of d (m + 1)
 unfolding along
 row_step d m hd hm =
     let n : (d * 64 + m) % 64 ≡ 63 → ⊥ = λ e. omega arith in
-    let t = simp (ne_eqb ((d * 64 + m) % 64) 63 n, get_or-drop 1 reductions (d * 64 + m) 0) at (next-along (d * 64 + m) (omega arith)) in
+    let t = simp (ne_eqb ((d * 64 + m) % 64) 63 n, get_or-drop 1 reductions (d * 64 + m) 0) at (next_along (d * 64 + m) (omega arith)) in
     subst (λ (k : ℕ). entry_of d m ≤ get_or reductions k 0) e (leb→le (entry_of d m) (get_or reductions (1 + (d * 64 + m)) 0) t)
   where
     e : 1 + (d * 64 + m) ≡ d * 64 + (m + 1)
     e = omega arith
 
-pub column-step : (d m : ℕ) → d + 1 < 32 → m ≤ 63 → entry_of d m ≤ entry_of (d + 1) m
+pub column_step : (d m : ℕ) → d + 1 < 32 → m ≤ 63 → entry_of d m ≤ entry_of (d + 1) m
 unfolding down
-column-step d m hd hm =
+column_step d m hd hm =
     let t = simp (get_or-drop 64 reductions (d * 64 + m) 0) at (next_down (d * 64 + m) (omega arith)) in
     subst (λ (k : ℕ). entry_of d m ≤ get_or reductions k 0) e (leb→le (entry_of d m) (get_or reductions (64 + (d * 64 + m)) 0) t)
   where

@@ -21,8 +21,8 @@ row_of depth =
       fourth = packed (columns depth 3);
     }
 
-abbrev pub quarterOf : Quarters → ℕ → ℕ
-quarterOf r zero = r.first
-quarterOf r (suc zero) = r.second
-quarterOf r (suc (suc zero)) = r.third
-quarterOf r (suc (suc (suc q))) = r.fourth
+abbrev pub quarter_of : Quarters → ℕ → ℕ
+quarter_of r zero = r.first
+quarter_of r (suc zero) = r.second
+quarter_of r (suc (suc zero)) = r.third
+quarter_of r (suc (suc (suc q))) = r.fourth

@@ -78,5 +78,5 @@ abbrev pub entry_of : ℕ → ℕ → ℕ
 entry_of depth moves = get_or reductions (depth * 64 + moves) 0
 
 -- the reduction at a depth after a count of moves: the table's entry, and 0 outside of the table
-abbrev pub reductionOf : ℕ → ℕ → ℕ
-reductionOf depth moves = cond (outside depth moves) 0 (entry_of depth moves)
+abbrev pub reduction_of : ℕ → ℕ → ℕ
+reduction_of depth moves = cond (outside depth moves) 0 (entry_of depth moves)

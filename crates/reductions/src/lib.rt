@@ -2,8 +2,8 @@
 mod lmr;
 
 ghost use Rattle.std.specs.Prelude.{◌≡◌, ◌*◌, ◌/◌, ◌%◌, ◌^◌, ◌<◌, ◌≤◌};
-ghost use Rattle.reductions.specs.Reductions.{reductionOf};
-ghost use Rattle.reductions.specs.Packed.{row_of, quarterOf};
+ghost use Rattle.reductions.specs.Reductions.{reduction_of};
+ghost use Rattle.reductions.specs.Packed.{row_of, quarter_of};
 
 use crate::lmr::Quarters;
 
@@ -49,7 +49,7 @@ fn row(depth: usize) -> Quarters
 
 // The number that has the columns 16q to 16q + 15.
 fn quarter(r: Quarters, q: usize) -> u64
-    ensures { result ≡ quarterOf r q }
+    ensures { result ≡ quarter_of r q }
 {
     if q == 0 {
         return r.first;
@@ -73,7 +73,7 @@ fn digit(w: u64, i: usize) -> u8
 
 // How much shallower the moves-th move at a depth is searched; outside of the table nothing is taken off.
 pub fn reduction(depth: usize, moves: usize) -> u8
-    ensures { result ≡ reductionOf depth moves }
+    ensures { result ≡ reduction_of depth moves }
 {
     if depth > 31 {
         return 0;

@@ -14,14 +14,14 @@ holds false b e = absurd (false≢true e)
 
 -- three tests
 
-pub fails-first : (a b c : Bool) → a ≡ false → false ≡ (a && b && c)
-fails-first true b c e = absurd (true≢false e)
-fails-first false b c e = refl
+pub fails_first : (a b c : Bool) → a ≡ false → false ≡ (a && b && c)
+fails_first true b c e = absurd (true≢false e)
+fails_first false b c e = refl
 
-pub fails-second : (a b c : Bool) → a ≡ true → b ≡ false → false ≡ (a && b && c)
-fails-second true b c h e = fails b c e
-fails-second false b c h e = absurd (false≢true h)
+pub fails_second : (a b c : Bool) → a ≡ true → b ≡ false → false ≡ (a && b && c)
+fails_second true b c h e = fails b c e
+fails_second false b c h e = absurd (false≢true h)
 
-pub holds-both : (a b c : Bool) → a ≡ true → b ≡ true → c ≡ (a && b && c)
-holds-both true b c h e = holds b c e
-holds-both false b c h e = absurd (false≢true h)
+pub holds_both : (a b c : Bool) → a ≡ true → b ≡ true → c ≡ (a && b && c)
+holds_both true b c h e = holds b c e
+holds_both false b c h e = absurd (false≢true h)

@@ -2,13 +2,13 @@
 ghost use Rattle.std.specs.Prelude.{◌≡◌, true, pos};
 ghost use Rattle.std.specs.Int.Signed.{le_z};
 ghost use Rattle.tree.specs.Blocks.{Blocked};
-ghost use Rattle.refusals.specs.Rows.{infRight, maxPlyRight, hhMaxRight, sideRight, limitRight, treeSettingsRight, historySettingsRight, settingsRight, tableRight, historySized, historyRight, nodeRight, windowRight, depthRight, plyRight, rangeRight};
-ghost use Rattle.refusals.specs.First.{treeRows, searchRows, entry_rows};
+ghost use Rattle.refusals.specs.Rows.{inf_right, max_ply_right, hh_max_right, side_right, limit_right, tree_settings_right, history_settings_right, settings_right, table_right, history_sized, history_right, node_right, window_right, depth_right, ply_right, range_right};
+ghost use Rattle.refusals.specs.First.{tree_rows, search_rows, entry_rows};
 
 use state::Settings;
 
 fn inf_right(inf: i16) -> bool
-    ensures { result ≡ infRight inf }
+    ensures { result ≡ inf_right inf }
 {
     if inf < 1000 {
         return false;
@@ -17,7 +17,7 @@ fn inf_right(inf: i16) -> bool
 }
 
 fn max_ply_right(ply: u16) -> bool
-    ensures { result ≡ maxPlyRight ply }
+    ensures { result ≡ max_ply_right ply }
 {
     if ply < 32 {
         return false;
@@ -26,7 +26,7 @@ fn max_ply_right(ply: u16) -> bool
 }
 
 fn limit_right(limit: u64) -> bool
-    ensures { result ≡ limitRight limit }
+    ensures { result ≡ limit_right limit }
 {
     if limit < 1 {
         return false;
@@ -36,7 +36,7 @@ fn limit_right(limit: u64) -> bool
 
 // Row 6, of the setting that a delta takes.
 pub fn hh_max_right(hh: i16) -> bool
-    ensures { result ≡ hhMaxRight hh }
+    ensures { result ≡ hh_max_right hh }
 {
     if hh < 4 {
         return false;
@@ -46,7 +46,7 @@ pub fn hh_max_right(hh: i16) -> bool
 
 // Row 6, of the settings that a tree's check takes.
 pub fn tree_settings_right(inf: i16, ply: u16) -> bool
-    ensures { result ≡ treeSettingsRight inf ply }
+    ensures { result ≡ tree_settings_right inf ply }
 {
     if !inf_right(inf) {
         return false;
@@ -56,7 +56,7 @@ pub fn tree_settings_right(inf: i16, ply: u16) -> bool
 
 // Row 6, of the settings that a bonus or a malus takes.
 pub fn history_settings_right(hh: i16, side: u16) -> bool
-    ensures { result ≡ historySettingsRight hh side }
+    ensures { result ≡ history_settings_right hh side }
 {
     if !hh_max_right(hh) {
         return false;
@@ -66,7 +66,7 @@ pub fn history_settings_right(hh: i16, side: u16) -> bool
 
 // Row 6, of the settings that a search takes.
 pub fn settings_right(set: Settings) -> bool
-    ensures { result ≡ settingsRight set }
+    ensures { result ≡ settings_right set }
 {
     if !tree_settings_right(set.inf, set.max_ply) {
         return false;
@@ -79,14 +79,14 @@ pub fn settings_right(set: Settings) -> bool
 
 // Row 8, of the table: 2n words, n a power of two, 1 to 65,536.
 pub fn table_right(words: &[u64]) -> bool
-    ensures { result ≡ tableRight words.now }
+    ensures { result ≡ table_right words.now }
 {
     table::well_sized(words.len())
 }
 
 // Row 8, of the history.
 pub fn history_sized(history: &[i16]) -> bool
-    ensures { result ≡ historySized history.now }
+    ensures { result ≡ history_sized history.now }
 {
     history.len() == 8192
 }
@@ -94,7 +94,7 @@ pub fn history_sized(history: &[i16]) -> bool
 // Row 9, of an HH_MAX in its range.
 pub fn history_right(history: &[i16], hh: i16) -> bool
     requires { le_z (pos 0) hh ≡ true }
-    ensures { result ≡ historyRight hh history.now }
+    ensures { result ≡ history_right hh history.now }
 {
     history::within(history, score::bits16(hh))
 }
@@ -102,14 +102,14 @@ pub fn history_right(history: &[i16], hh: i16) -> bool
 // Row 7, of the node, in a tree whose blocks are right.
 pub fn node_right(tree: &[u8], node: u64) -> bool
     requires { Blocked tree.now }
-    ensures { result ≡ nodeRight tree.now node }
+    ensures { result ≡ node_right tree.now node }
 {
     node < tree::blocks::nodes(tree) as u64
 }
 
 // Row 7, of the window: -INF <= alpha < beta <= INF.
 pub fn window_right(inf: i16, alpha: i16, beta: i16) -> bool
-    ensures { result ≡ windowRight inf alpha beta }
+    ensures { result ≡ window_right inf alpha beta }
 {
     if (alpha as i32) < -(inf as i32) {
         return false;
@@ -122,7 +122,7 @@ pub fn window_right(inf: i16, alpha: i16, beta: i16) -> bool
 
 // Row 7, of the depth.
 pub fn depth_right(depth: i8) -> bool
-    ensures { result ≡ depthRight depth }
+    ensures { result ≡ depth_right depth }
 {
     if depth < 0 {
         return false;
@@ -132,14 +132,14 @@ pub fn depth_right(depth: i8) -> bool
 
 // Row 7, of the ply.
 pub fn ply_right(most: u16, ply: u64) -> bool
-    ensures { result ≡ plyRight most ply }
+    ensures { result ≡ ply_right most ply }
 {
     ply <= most as u64
 }
 
 // Row 7, of the root's range: start from 1 on, end from start to 31.
 pub fn range_right(start: i8, end: i8) -> bool
-    ensures { result ≡ rangeRight start end }
+    ensures { result ≡ range_right start end }
 {
     if start < 1 {
         return false;
@@ -152,7 +152,7 @@ pub fn range_right(start: i8, end: i8) -> bool
 
 // The first refusal that the tree and its settings get: 6, then 1 to 5; 0 where they are accepted.
 pub fn tree_rows(tree: &[u8], inf: i16, ply: u16) -> u8
-    ensures { result ≡ treeRows inf ply tree.now }
+    ensures { result ≡ tree_rows inf ply tree.now }
 {
     if !tree_settings_right(inf, ply) {
         return 6;
@@ -162,7 +162,7 @@ pub fn tree_rows(tree: &[u8], inf: i16, ply: u16) -> u8
 
 // The first of the refusals that both searches test: 6, 1 to 5, 8.
 pub fn search_rows(tree: &[u8], words: &[u64], history: &[i16], set: Settings) -> u8
-    ensures { result ≡ searchRows tree.now words.now history.now set }
+    ensures { result ≡ search_rows tree.now words.now history.now set }
 {
     if !settings_right(set) {
         return 6;

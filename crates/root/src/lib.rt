@@ -3,8 +3,8 @@ ghost use Rattle.std.specs.Prelude.{◌≡◌, ℕ, ◌-◌, ◌≤◌, ◌<◌}
 ghost use Rattle.moves.specs.Kid.{Kid};
 ghost use Rattle.carry.specs.Carry.{with};
 ghost use Rattle.visits.specs.Reach.{Ready};
-ghost use Rattle.visits.specs.Search.{nodeSearch};
-ghost use Rattle.root.specs.Root.{turnF, walkAll, depth_f, depthsF, rootSearch};
+ghost use Rattle.visits.specs.Search.{node_search};
+ghost use Rattle.root.specs.Root.{turn_f, walk_all, depth_f, depths_f, root_search};
 
 use record::node;
 use root_steps::{Best, Depths, Walked};
@@ -25,7 +25,7 @@ fn root_turn(
     requires side_bound { (set.side ≤ 1) × ((1 ≤ depth) × (depth ≤ 31)) }
     requires kid { Kid tree.now 0 c }
     ensures { with result words.new history.new ≡
-        turnF (nodeSearch tree.now set) tree.now set depth w c words.old history.old }
+        turn_f (node_search tree.now set) tree.now set depth w c words.old history.old }
 {
     let st = root_steps::counted(w);
     let r = search::search_node(
@@ -52,7 +52,7 @@ fn root_walk(
     requires ready { Ready set tree.now words.old history.old }
     requires side_bound { (set.side ≤ 1) × ((1 ≤ depth) × (depth ≤ 31)) }
     ensures { with result words.new history.new ≡
-        walkAll (nodeSearch tree.now set) tree.now set best depth st words.old history.old }
+        walk_all (node_search tree.now set) tree.now set best depth st words.old history.old }
 {
     let n = node::child_count(tree, 0);
     let place = root_steps::place_of(tree, best);
@@ -84,7 +84,7 @@ fn root_depth(
     requires ready { Ready set tree.now words.old history.old }
     requires side_bound { (set.side ≤ 1) × ((1 ≤ depth) × (depth ≤ 31)) }
     ensures { with result words.new history.new ≡
-        depth_f (nodeSearch tree.now set) tree.now set depth (with d words.old history.old) }
+        depth_f (node_search tree.now set) tree.now set depth (with d words.old history.old) }
 {
     let best = d.best;
     let st = d.state;
@@ -105,7 +105,7 @@ fn deepening(
     requires ready { Ready set tree.now words.old history.old }
     requires side_bound { (set.side ≤ 1) × ((1 ≤ start) × (end ≤ 31)) }
     ensures { with result words.new history.new ≡
-        depthsF (nodeSearch tree.now set) tree.now set (end - start) start (with begin words.old history.old) }
+        depths_f (node_search tree.now set) tree.now set (end - start) start (with begin words.old history.old) }
 {
     let mut d = begin;
     let mut depth = start;
@@ -136,7 +136,7 @@ pub fn search_root(
     requires ready { Ready set tree.now words.old history.old }
     requires side_bound { (set.side ≤ 1) × ((1 ≤ start) × (end ≤ 31)) }
     ensures { with result words.new history.new ≡
-        rootSearch tree.now set stats start end words.old history.old }
+        root_search tree.now set stats start end words.old history.old }
 {
     history::clear(history);
     deepening(

@@ -4,23 +4,23 @@ use Rattle.std.specs.Int.Signed.{lt_z, le_z}
 use Rattle.score.specs.Wrap.{neg16}
 use Rattle.transposition.specs.declared.Bound.TheVariants.{Exact}
 use Rattle.table.specs.declared.Stats.{Stats}
-use Rattle.table.specs.Stats.{resetOf}
-use Rattle.record.specs.Node.{first_of, count_of, move_of, hashOf}
+use Rattle.table.specs.Stats.{reset_of}
+use Rattle.record.specs.Node.{first_of, count_of, move_of, hash_of}
 use Rattle.state.specs.declared.Settings.{Settings}
 use Rattle.state.specs.declared.State.{State}
 use Rattle.state.specs.declared.Out.{Out}
 use Rattle.moves.specs.declared.Place.{Place}
-use Rattle.moves.specs.Order.{placeOf}
-use Rattle.state.specs.State.{Over, over, pollOf, countNode, keepOf}
+use Rattle.moves.specs.Order.{place_of}
+use Rattle.state.specs.State.{Over, over, poll_of, count_node, keep_of}
 use Rattle.carry.specs.declared.Args.{Args}
 use Rattle.root_steps.specs.declared.Best.{Best}
 use Rattle.root_steps.specs.declared.Depths.{Depths}
 use Rattle.root_steps.specs.declared.Walked.{Walked}
 
 -- 01, Visits: "The root search zeroes history and, if the table switch is on, resets age."
-unfoldable pub freshStats : Bool → Stats → Stats
-freshStats true c = resetOf c
-freshStats false c = c
+unfoldable pub fresh_stats : Bool → Stats → Stats
+fresh_stats true c = reset_of c
+fresh_stats false c = c
 
 -- 01, Visits: "Both begin with count 0 and the stop unset"; "when none was, score, move and depth are 0"
 abbrev pub fresh_of : Settings → Stats → Depths
@@ -31,82 +31,82 @@ fresh_of set c =
       two = pos 0;
       three = pos 0;
       over = false;
-      state = record { nodes = 0; stop = false; stats = freshStats set.table c };
+      state = record { nodes = 0; stop = false; stats = fresh_stats set.table c };
     }
 
-abbrev pub mateLine : Settings → ℤ
-mateLine set = set.inf -ℤ pos set.max_ply
+abbrev pub mate_line : Settings → ℤ
+mate_line set = set.inf -ℤ pos set.max_ply
 
 -- 000: not "-inf < score && score < inf", inf being INF - MAX_PLY
-unfoldable pub mateOf : Settings → ℤ → Bool
-mateOf set x = le_z x (neg_ℤ (mateLine set)) || le_z (mateLine set) x
+unfoldable pub mate_of : Settings → ℤ → Bool
+mate_of set x = le_z x (neg_ℤ (mate_line set)) || le_z (mate_line set) x
 
 -- 000: "Stop the search if the position was mate at the 3 previous shallower depths", "if depth > 6"
-unfoldable pub matedOf : Settings → Depths → ℕ → Bool
-matedOf set d depth = ltb 6 depth && mateOf set d.one && mateOf set d.two && mateOf set d.three
+unfoldable pub mated_of : Settings → Depths → ℕ → Bool
+mated_of set d depth = ltb 6 depth && mate_of set d.one && mate_of set d.two && mate_of set d.three
 
 -- 000: "let mut alpha = -INF"
-abbrev pub beginOf : Settings → State → Walked
-beginOf set s = record { any = false; alpha = neg16 set.inf; mv = 0; state = s }
+abbrev pub begin_of : Settings → State → Walked
+begin_of set s = record { any = false; alpha = neg16 set.inf; mv = 0; state = s }
 
 -- 000: "if !best_move.is_null() { self.moves.add_move(best_move) }"
-unfoldable pub placeRoot : List ℕ → Best → Place
-placeRoot t b = placeOf t (first_of t 0) (count_of t 0) b.mv
+unfoldable pub place_root : List ℕ → Best → Place
+place_root t b = place_of t (first_of t 0) (count_of t 0) b.mv
 
-abbrev pub polledOf : Settings → Walked → Walked
-polledOf set w = record { any = w.any; alpha = w.alpha; mv = w.mv; state = pollOf set.limit w.state }
+abbrev pub polled_of : Settings → Walked → Walked
+polled_of set w = record { any = w.any; alpha = w.alpha; mv = w.mv; state = poll_of set.limit w.state }
 
-abbrev pub countedOf : Walked → State
-countedOf w = countNode w.state
+abbrev pub counted_of : Walked → State
+counted_of w = count_node w.state
 
 -- 000: "-self.search_node(-beta, -alpha, depth - 1, ply + 1)" at ply 0, beta being INF
-abbrev pub downOf : Settings → ℕ → Walked → ℕ → Args
-downOf set depth w c =
+abbrev pub down_of : Settings → ℕ → Walked → ℕ → Args
+down_of set depth w c =
     record { node = c; side = 1 - set.side; alpha = neg16 set.inf; beta = neg16 w.alpha; depth = depth - 1; ply = 1 }
 
 -- 000: "if score > alpha { .. alpha = score; best_scores[depth] = score; best_moves[depth] = m; }"
-unfoldable pub raiseIf : Bool → List ℕ → Walked → ℕ → ℤ → State → Walked
-raiseIf true t w c x s = record { any = true; alpha = x; mv = move_of t c; state = s }
-raiseIf false t w c x s = record { any = true; alpha = w.alpha; mv = w.mv; state = s }
+unfoldable pub raise_if : Bool → List ℕ → Walked → ℕ → ℤ → State → Walked
+raise_if true t w c x s = record { any = true; alpha = x; mv = move_of t c; state = s }
+raise_if false t w c x s = record { any = true; alpha = w.alpha; mv = w.mv; state = s }
 
-unfoldable pub judgeOf : List ℕ → Walked → ℕ → Out → Walked
-judgeOf t w c r = raiseIf (lt_z w.alpha (neg16 r.score)) t w c (neg16 r.score) r.state
+unfoldable pub judge_of : List ℕ → Walked → ℕ → Out → Walked
+judge_of t w c r = raise_if (lt_z w.alpha (neg16 r.score)) t w c (neg16 r.score) r.state
 
-unfoldable pub scoreIf : Bool → ℤ → ℤ
-scoreIf true x = pos 0
-scoreIf false x = x
+unfoldable pub score_if : Bool → ℤ → ℤ
+score_if true x = pos 0
+score_if false x = x
 
 -- 000: best_scores[depth], 0 where no move beat alpha
-abbrev pub scoreOf : Walked → ℤ
-scoreOf w = scoreIf (eqb w.mv 0) w.alpha
+abbrev pub score_of : Walked → ℤ
+score_of w = score_if (eqb w.mv 0) w.alpha
 
 -- 000: "if !has_legal_moves { break }"
-abbrev pub shiftedOf : Depths → Walked → Best → State → Depths
-shiftedOf d w b s = record { best = b; one = scoreOf w; two = d.one; three = d.two; over = not w.any; state = s }
+abbrev pub shifted_of : Depths → Walked → Best → State → Depths
+shifted_of d w b s = record { best = b; one = score_of w; two = d.one; three = d.two; over = not w.any; state = s }
 
-abbrev pub keptBy : Depths → ℕ → Walked → Over State → Over Depths
-keptBy d depth w k = over (shiftedOf d w (record { score = w.alpha; mv = w.mv; depth = depth }) k.it) k.words
+abbrev pub kept_by : Depths → ℕ → Walked → Over State → Over Depths
+kept_by d depth w k = over (shifted_of d w (record { score = w.alpha; mv = w.mv; depth = depth }) k.it) k.words
 
 -- 000: "self.tt.set(hash, depth, best_score, best_move, Bound::Exact)"
-unfoldable pub keptOf : List ℕ → Settings → Depths → ℕ → Walked → State → List ℕ → Over Depths
-keptOf t set d depth w s words = keptBy d depth w (keepOf set.table words s (hashOf t 0) (pos depth) w.alpha w.mv Exact)
+unfoldable pub kept_of : List ℕ → Settings → Depths → ℕ → Walked → State → List ℕ → Over Depths
+kept_of t set d depth w s words = kept_by d depth w (keep_of set.table words s (hash_of t 0) (pos depth) w.alpha w.mv Exact)
 
-unfoldable pub stoppedIf : Bool → List ℕ → Settings → Depths → ℕ → Walked → State → List ℕ → Over Depths
-stoppedIf true t set d depth w s words = over (shiftedOf d w d.best s) words
-stoppedIf false t set d depth w s words = keptOf t set d depth w s words
+unfoldable pub stopped_if : Bool → List ℕ → Settings → Depths → ℕ → Walked → State → List ℕ → Over Depths
+stopped_if true t set d depth w s words = over (shifted_of d w d.best s) words
+stopped_if false t set d depth w s words = kept_of t set d depth w s words
 
-abbrev pub unlessStopped : List ℕ → Settings → Depths → ℕ → Walked → State → List ℕ → Over Depths
-unlessStopped t set d depth w s words = stoppedIf s.stop t set d depth w s words
+abbrev pub unless_stopped : List ℕ → Settings → Depths → ℕ → Walked → State → List ℕ → Over Depths
+unless_stopped t set d depth w s words = stopped_if s.stop t set d depth w s words
 
 -- 01, Errors that look right: "Root values of an unfinished depth kept (only depth 1 may be)"
-unfoldable pub firstIf : Bool → List ℕ → Settings → Depths → ℕ → Walked → List ℕ → Over Depths
-firstIf true t set d depth w words = keptOf t set d depth w w.state words
-firstIf false t set d depth w words = unlessStopped t set d depth w (pollOf set.limit w.state) words
+unfoldable pub first_if : Bool → List ℕ → Settings → Depths → ℕ → Walked → List ℕ → Over Depths
+first_if true t set d depth w words = kept_of t set d depth w w.state words
+first_if false t set d depth w words = unless_stopped t set d depth w (poll_of set.limit w.state) words
 
 -- 000: "!best_moves[depth].is_null() && (depth == 1 || !self.clock.poll(self.nodes_count))"
-unfoldable pub savedIf : Bool → List ℕ → Settings → Depths → ℕ → Walked → List ℕ → Over Depths
-savedIf true t set d depth w words = over (shiftedOf d w d.best w.state) words
-savedIf false t set d depth w words = firstIf (eqb depth 1) t set d depth w words
+unfoldable pub saved_if : Bool → List ℕ → Settings → Depths → ℕ → Walked → List ℕ → Over Depths
+saved_if true t set d depth w words = over (shifted_of d w d.best w.state) words
+saved_if false t set d depth w words = first_if (eqb depth 1) t set d depth w words
 
-abbrev pub savedOf : List ℕ → Settings → Depths → ℕ → Walked → List ℕ → Over Depths
-savedOf t set d depth w words = savedIf (eqb w.mv 0) t set d depth w words
+abbrev pub saved_of : List ℕ → Settings → Depths → ℕ → Walked → List ℕ → Over Depths
+saved_of t set d depth w words = saved_if (eqb w.mv 0) t set d depth w words

@@ -1,9 +1,9 @@
 // The steps of a root search that visit no node.
 ghost use Rattle.std.specs.Prelude.{◌≡◌, ◌≤◌, ◌<◌, length};
-ghost use Rattle.tree.specs.Blocks.{Blocked, nodesOf};
+ghost use Rattle.tree.specs.Blocks.{Blocked, nodes_of};
 ghost use Rattle.tree.specs.Layout.{Laid};
 ghost use Rattle.state.specs.State.{over};
-ghost use Rattle.root_steps.specs.Step.{freshStats, fresh_of, mateOf, matedOf, beginOf, placeRoot, polledOf, countedOf, downOf, judgeOf, scoreOf, shiftedOf, keptOf, savedOf};
+ghost use Rattle.root_steps.specs.Step.{fresh_stats, fresh_of, mate_of, mated_of, begin_of, place_root, polled_of, counted_of, down_of, judge_of, score_of, shifted_of, kept_of, saved_of};
 
 use carry::Args;
 use moves::Place;
@@ -43,7 +43,7 @@ pub struct Walked {
 
 // Age and counters reset, if the table switch is on.
 fn fresh_stats(set: Settings, stats: Stats) -> Stats
-    ensures { result ≡ freshStats set.table stats }
+    ensures { result ≡ fresh_stats set.table stats }
 {
     if set.table {
         return stats.reset();
@@ -78,7 +78,7 @@ pub fn fresh(set: Settings, stats: Stats) -> Depths
 
 // Whether a score is one of a mate: not strictly inside plus and minus (INF - MAX_PLY).
 fn mate(set: Settings, score: i16) -> bool
-    ensures { result ≡ mateOf set score }
+    ensures { result ≡ mate_of set score }
 {
     let most = set.inf as i32 - set.max_ply as i32;
     let s = score as i32;
@@ -90,7 +90,7 @@ fn mate(set: Settings, score: i16) -> bool
 
 // Above depth 6: the score was one of a mate at the three depths before.
 pub fn mated(set: Settings, d: Depths, depth: u8) -> bool
-    ensures { result ≡ matedOf set d depth }
+    ensures { result ≡ mated_of set d depth }
 {
     if depth <= 6 {
         return false;
@@ -106,7 +106,7 @@ pub fn mated(set: Settings, d: Depths, depth: u8) -> bool
 
 // Alpha is -INF, and no move was made.
 pub fn begin(set: Settings, st: State) -> Walked
-    ensures { result ≡ beginOf set st }
+    ensures { result ≡ begin_of set st }
 {
     Walked {
         any: false,
@@ -119,8 +119,8 @@ pub fn begin(set: Settings, st: State) -> Walked
 // The place of the move saved before.
 pub fn place_of(tree: &[u8], best: Best) -> Place
     requires laid { Laid tree.now }
-    requires tree_nonzero { 0 < nodesOf tree.now }
-    ensures { result ≡ placeRoot tree.now best }
+    requires tree_nonzero { 0 < nodes_of tree.now }
+    ensures { result ≡ place_root tree.now best }
 {
     let first = node::first_child(tree, 0);
     let count = node::child_count(tree, 0);
@@ -128,7 +128,7 @@ pub fn place_of(tree: &[u8], best: Best) -> Place
 }
 
 pub fn polled(set: Settings, w: Walked) -> Walked
-    ensures { result ≡ polledOf set w }
+    ensures { result ≡ polled_of set w }
 {
     let st = w.state;
     let s = st.poll(set.limit);
@@ -142,7 +142,7 @@ pub fn polled(set: Settings, w: Walked) -> Walked
 
 // The state after the move is counted.
 pub fn counted(w: Walked) -> State
-    ensures { result ≡ countedOf w }
+    ensures { result ≡ counted_of w }
 {
     let s = w.state;
     s.count_node()
@@ -152,7 +152,7 @@ pub fn counted(w: Walked) -> State
 pub fn down(set: Settings, depth: u8, w: Walked, c: usize) -> Args
     requires side_bound { set.side ≤ 1 }
     requires le_depth { 1 ≤ depth }
-    ensures { result ≡ downOf set depth w c }
+    ensures { result ≡ down_of set depth w c }
 {
     Args {
         node: c,
@@ -167,8 +167,8 @@ pub fn down(set: Settings, depth: u8, w: Walked, c: usize) -> Args
 // What a root move's answer makes of the walk.
 pub fn judge(tree: &[u8], w: Walked, c: usize, r: Out) -> Walked
     requires blocked { Blocked tree.now }
-    requires c_bound { c < nodesOf tree.now }
-    ensures { result ≡ judgeOf tree.now w c r }
+    requires c_bound { c < nodes_of tree.now }
+    ensures { result ≡ judge_of tree.now w c r }
 {
     let score = neg16(r.score);
     let s = r.state;
@@ -191,7 +191,7 @@ pub fn judge(tree: &[u8], w: Walked, c: usize, r: Out) -> Walked
 
 // The best score of a depth, 0 where nothing beat -INF.
 fn score_of(w: Walked) -> i16
-    ensures { result ≡ scoreOf w }
+    ensures { result ≡ score_of w }
 {
     if w.mv == 0 {
         return 0;
@@ -201,7 +201,7 @@ fn score_of(w: Walked) -> i16
 
 // One depth on.
 fn shifted(d: Depths, w: Walked, best: Best, s: State) -> Depths
-    ensures { result ≡ shiftedOf d w best s }
+    ensures { result ≡ shifted_of d w best s }
 {
     Depths {
         best: best,
@@ -224,9 +224,9 @@ fn keep_best(
     s: State,
 ) -> Depths
     requires blocked { Blocked tree.now }
-    requires tree_nonzero { 0 < nodesOf tree.now }
+    requires tree_nonzero { 0 < nodes_of tree.now }
     requires in_bounds { (2 ≤ length words.old) × (depth ≤ 31) }
-    ensures { over result words.new ≡ keptOf tree.now set d depth w s words.old }
+    ensures { over result words.new ≡ kept_of tree.now set d depth w s words.old }
 {
     let hash = node::hash(tree, 0);
     let after = s.keep(
@@ -256,9 +256,9 @@ pub fn saved(
     w: Walked,
 ) -> Depths
     requires blocked { Blocked tree.now }
-    requires tree_nonzero { 0 < nodesOf tree.now }
+    requires tree_nonzero { 0 < nodes_of tree.now }
     requires in_bounds { (2 ≤ length words.old) × (depth ≤ 31) }
-    ensures { over result words.new ≡ savedOf tree.now set d depth w words.old }
+    ensures { over result words.new ≡ saved_of tree.now set d depth w words.old }
 {
     let best = d.best;
     let st = w.state;

@@ -10,70 +10,70 @@ use mir.Syntax.{Width, w16}
 use mir.Val.{SFits, to_z, of_z, sel, bits, hbits}
 use mir.Facts.{to_z-of_z, to_z_pos}
 use borrow.Author.Tests.{le-ltb, eq-eqb, ne_eqb, ltb-true, ltb-false}
-use Rattle.score.specs.Wrap.{eqZ}
+use Rattle.score.specs.Wrap.{eq_z}
 use Rattle.score.specs.Bits.{bits_of, signed_of}
 use Rattle.score.proofs.Cases.{sub-ind}
 
-pub below-zero : (z : ℤ) (K : ℕ) → T (lt_z z (pos 0)) → mag z < K → z +ℤ pos K ≡ pos (K - suc (mag z))
-below-zero (pos n) K t h = absurd (no (ltb→lt n 0 t))
+pub below_zero : (z : ℤ) (K : ℕ) → T (lt_z z (pos 0)) → mag z < K → z +ℤ pos K ≡ pos (K - suc (mag z))
+below_zero (pos n) K t h = absurd (no (ltb→lt n 0 t))
   where
     no : n < 0 → ⊥
     no l = omega arith
-below-zero (negsuc n) K t h = sub-ind K (suc n) (λ z. z ≡ pos (K - suc n)) (λ l. absurd (no l)) (λ l. refl)
+below_zero (negsuc n) K t h = sub-ind K (suc n) (λ z. z ≡ pos (K - suc n)) (λ l. absurd (no l)) (λ l. refl)
   where
     no : K < suc n → ⊥
     no l = omega arith
 
-pub neg-ofZ : (w : Width) (z : ℤ) → T (lt_z z (pos 0)) → of_z w z ≡ 2 ^ bits w - suc (mag z)
-neg-ofZ w (pos n) t = absurd (no (ltb→lt n 0 t))
+pub neg_of_z : (w : Width) (z : ℤ) → T (lt_z z (pos 0)) → of_z w z ≡ 2 ^ bits w - suc (mag z)
+neg_of_z w (pos n) t = absurd (no (ltb→lt n 0 t))
   where
     no : n < 0 → ⊥
     no l = omega arith
-neg-ofZ w (negsuc n) t = refl
+neg_of_z w (negsuc n) t = refl
 
 pub not_neg : (z : ℤ) → T (not (lt_z z (pos 0))) → z ≡ pos (nat_abs z)
 not_neg (pos n) t = refl
 not_neg (negsuc n) t = absurd t
 
-pub drop-full : (n K : ℕ) → n < K → sub_ℕ n K ≡ negsuc (K - suc n)
-drop-full n K h = sub-ind n K (λ z. z ≡ negsuc (K - suc n)) (λ l. refl) (λ l. absurd (no l))
+pub drop_full : (n K : ℕ) → n < K → sub_ℕ n K ≡ negsuc (K - suc n)
+drop_full n K h = sub-ind n K (λ z. z ≡ negsuc (K - suc n)) (λ l. refl) (λ l. absurd (no l))
   where
     no : K ≤ n → ⊥
     no l = omega arith
 
-pub toZ-big : (w : Width) (n : ℕ) → 2 ^ hbits w ≤ n → to_z w n ≡ negsuc (2 ^ bits w - suc n)
-toZ-big w n h = ap (λ (t : Bool). sel t (pos n) (negsuc (2 ^ bits w - suc n))) (le-ltb n (2 ^ hbits w) h)
+pub to_z_big : (w : Width) (n : ℕ) → 2 ^ hbits w ≤ n → to_z w n ≡ negsuc (2 ^ bits w - suc n)
+to_z_big w n h = ap (λ (t : Bool). sel t (pos n) (negsuc (2 ^ bits w - suc n))) (le-ltb n (2 ^ hbits w) h)
 
 -- equality: the bits' equality is the numbers', and a test that computes
 pub same_bits : (w : Width) {a b : ℤ} → SFits w a → SFits w b → of_z w a ≡ of_z w b → a ≡ b
 same_bits w fa fb e = sym (to_z-of_z fa) ∙ ap (to_z w) e ∙ to_z-of_z fb
 
-pub eqZ-yes : (a b : ℤ) → a ≡ b → eqZ a b ≡ true
-unfolding eqZ
-eqZ-yes a b e = subst (λ (x : ℤ). eqZ a x ≡ true) e (itself a)
+pub eq_z_yes : (a b : ℤ) → a ≡ b → eq_z a b ≡ true
+unfolding eq_z
+eq_z_yes a b e = subst (λ (x : ℤ). eq_z a x ≡ true) e (itself a)
   where
-    itself : (a : ℤ) → eqZ a a ≡ true
+    itself : (a : ℤ) → eq_z a a ≡ true
     itself (pos n) = eq-eqb n n refl
     itself (negsuc n) = eq-eqb n n refl
 
-pub eqZ-no : (a b : ℤ) → (a ≡ b → ⊥) → eqZ a b ≡ false
-unfolding eqZ
-eqZ-no (pos a) (pos b) h = ne_eqb a b (λ e. h (ap pos e))
-eqZ-no (pos a) (negsuc b) h = refl
-eqZ-no (negsuc a) (pos b) h = refl
-eqZ-no (negsuc a) (negsuc b) h = ne_eqb a b (λ e. h (ap negsuc e))
+pub eq_z_no : (a b : ℤ) → (a ≡ b → ⊥) → eq_z a b ≡ false
+unfolding eq_z
+eq_z_no (pos a) (pos b) h = ne_eqb a b (λ e. h (ap pos e))
+eq_z_no (pos a) (negsuc b) h = refl
+eq_z_no (negsuc a) (pos b) h = refl
+eq_z_no (negsuc a) (negsuc b) h = ne_eqb a b (λ e. h (ap negsuc e))
 
 -- there and back: the bits of a number that fits hold that number
-pub signed-bits : (w : Width) (z : ℤ) → SFits w z → signed_of w (bits_of w z) ≡ z
-signed-bits w z f = to_z-of_z f
+pub signed_bits : (w : Width) (z : ℤ) → SFits w z → signed_of w (bits_of w z) ≡ z
+signed_bits w z f = to_z-of_z f
 
 -- and back again: the number that some bits hold has these bits
-pub bits-signed : (w : Width) (n : ℕ) → n < 2 ^ bits w → bits_of w (signed_of w n) ≡ n
-bits-signed w n h = go (ltb n (2 ^ hbits w)) refl
+pub bits_signed : (w : Width) (n : ℕ) → n < 2 ^ bits w → bits_of w (signed_of w n) ≡ n
+bits_signed w n h = go (ltb n (2 ^ hbits w)) refl
   where
     go : (t : Bool) → ltb n (2 ^ hbits w) ≡ t → of_z w (to_z w n) ≡ n
     go true e = ap (of_z w) (to_z_pos w (ltb-true n (2 ^ hbits w) e))
-    go false e = ap (of_z w) (toZ-big w n (ltb-false n (2 ^ hbits w) e)) ∙ whole
+    go false e = ap (of_z w) (to_z_big w n (ltb-false n (2 ^ hbits w) e)) ∙ whole
       where
         whole : 2 ^ bits w - suc (2 ^ bits w - suc n) ≡ n
         whole = omega arith

@@ -7,8 +7,8 @@ use native.Mathlib.Omega.{arith}
 use lib.IntN.{ℤ, pos, negsuc, neg_ℤ, ◌+ℤ◌, ◌-ℤ◌, pred_ℤ, -ℤ_one}
 use lib.Signed.{mag, lt_z, le_z}
 use borrow.Author.Tests.{ltb-true, ltb-false, leb-true, leb-false, lt-ltb}
-use Rattle.score.specs.Wrap.{wrap16, neg16, sub16, maxZ}
-use Rattle.score.proofs.Wrapping.{wrap-mid}
+use Rattle.score.specs.Wrap.{wrap16, neg16, sub16, max_z}
+use Rattle.score.proofs.Wrapping.{wrap_mid}
 use Rattle.score.proofs.Order.{off}
 
 -- the image of an integer within plus and minus INF
@@ -19,9 +19,9 @@ pub record InR (inf x : ℕ) : Type 0 where
 abbrev pub InZ : ℕ → ℤ → Type 0
 InZ inf z = InR inf (off z)
 
-pub zero-off : off (pos 0) ≡ 32768
+pub zero_off : off (pos 0) ≡ 32768
 unfolding off
-zero-off = refl
+zero_off = refl
 
 -- the tests
 
@@ -55,62 +55,62 @@ le_not inf (negsuc a) (negsuc b) i ia ib e = omega (arith, leb-false b a e)
 
 -- the operations, where nothing wraps
 
-mag-in : (inf : ℕ) (z : ℤ) → inf ≤ 30000 → InZ inf z → mag z < 32768
+mag_in : (inf : ℕ) (z : ℤ) → inf ≤ 30000 → InZ inf z → mag z < 32768
 unfolding off
-mag-in inf (pos k) i r = omega arith
-mag-in inf (negsuc k) i r = omega arith
+mag_in inf (pos k) i r = omega arith
+mag_in inf (negsuc k) i r = omega arith
 
-pub wrap-in : (inf : ℕ) (z : ℤ) → inf ≤ 30000 → InZ inf z → wrap16 z ≡ z
-wrap-in inf z i r = wrap-mid z (mag-in inf z i r)
+pub wrap_in : (inf : ℕ) (z : ℤ) → inf ≤ 30000 → InZ inf z → wrap16 z ≡ z
+wrap_in inf z i r = wrap_mid z (mag_in inf z i r)
 
-pub neg-off : (inf : ℕ) (z : ℤ) → inf ≤ 30000 → InZ inf z → off (neg_ℤ z) + off z ≡ 65536
+pub neg_off : (inf : ℕ) (z : ℤ) → inf ≤ 30000 → InZ inf z → off (neg_ℤ z) + off z ≡ 65536
 unfolding off
-neg-off inf (pos zero) i r = refl
-neg-off inf (pos (suc n)) i r = omega arith
-neg-off inf (negsuc n) i r = omega arith
+neg_off inf (pos zero) i r = refl
+neg_off inf (pos (suc n)) i r = omega arith
+neg_off inf (negsuc n) i r = omega arith
 
-in-neg : (inf x y : ℕ) → inf ≤ 30000 → InR inf x → y + x ≡ 65536 → InR inf y
-in-neg inf x y i r e = record { low = omega arith; high = omega arith }
+in_neg : (inf x y : ℕ) → inf ≤ 30000 → InR inf x → y + x ≡ 65536 → InR inf y
+in_neg inf x y i r e = record { low = omega arith; high = omega arith }
 
-pub neg16-is : (inf : ℕ) (z : ℤ) → inf ≤ 30000 → InZ inf z → neg16 z ≡ neg_ℤ z
+pub neg16_is : (inf : ℕ) (z : ℤ) → inf ≤ 30000 → InZ inf z → neg16 z ≡ neg_ℤ z
 unfolding neg16
-neg16-is inf z i r = wrap-in inf (neg_ℤ z) i (in-neg inf (off z) (off (neg_ℤ z)) i r (neg-off inf z i r))
+neg16_is inf z i r = wrap_in inf (neg_ℤ z) i (in_neg inf (off z) (off (neg_ℤ z)) i r (neg_off inf z i r))
 
-pub neg-eq : (inf : ℕ) (z : ℤ) → inf ≤ 30000 → InZ inf z → off (neg16 z) + off z ≡ 65536
-neg-eq inf z i r = rw (neg16-is inf z i r) (neg-off inf z i r)
+pub neg_eq : (inf : ℕ) (z : ℤ) → inf ≤ 30000 → InZ inf z → off (neg16 z) + off z ≡ 65536
+neg_eq inf z i r = rw (neg16_is inf z i r) (neg_off inf z i r)
 
-pub neg-in : (inf : ℕ) (z : ℤ) → inf ≤ 30000 → InZ inf z → InZ inf (neg16 z)
-neg-in inf z i r = in-neg inf (off z) (off (neg16 z)) i r (neg-eq inf z i r)
+pub neg_in : (inf : ℕ) (z : ℤ) → inf ≤ 30000 → InZ inf z → InZ inf (neg16 z)
+neg_in inf z i r = in_neg inf (off z) (off (neg16 z)) i r (neg_eq inf z i r)
 
-pred-off : (inf : ℕ) (z : ℤ) → inf ≤ 30000 → InZ inf z → off (pred_ℤ z) + 1 ≡ off z
+pred_off : (inf : ℕ) (z : ℤ) → inf ≤ 30000 → InZ inf z → off (pred_ℤ z) + 1 ≡ off z
 unfolding off
-pred-off inf (pos zero) i r = refl
-pred-off inf (pos (suc n)) i r = omega arith
-pred-off inf (negsuc n) i r = omega arith
+pred_off inf (pos zero) i r = refl
+pred_off inf (pos (suc n)) i r = omega arith
+pred_off inf (negsuc n) i r = omega arith
 
 pub less_one : (inf : ℕ) (z : ℤ) → inf ≤ 30000 → InZ inf z → 32768 < off z + inf → off (sub16 z (pos 1)) + 1 ≡ off z
 unfolding sub16
 less_one inf z i r l =
-    let e = pred-off inf z i r in
-    let w : wrap16 (z -ℤ pos 1) ≡ pred_ℤ z = rw (-ℤ_one z) (wrap-in inf (pred_ℤ z) i (record { low = omega arith; high = omega arith })) in
+    let e = pred_off inf z i r in
+    let w : wrap16 (z -ℤ pos 1) ≡ pred_ℤ z = rw (-ℤ_one z) (wrap_in inf (pred_ℤ z) i (record { low = omega arith; high = omega arith })) in
     rw w e
 
-pub max-off : (inf : ℕ) (a b : ℤ) → inf ≤ 30000 → InZ inf a → InZ inf b → off (maxZ a b) ≡ max (off a) (off b)
-max-off inf a b i ia ib = go (lt_z a b) refl
+pub max_off : (inf : ℕ) (a b : ℤ) → inf ≤ 30000 → InZ inf a → InZ inf b → off (max_z a b) ≡ max (off a) (off b)
+max_off inf a b i ia ib = go (lt_z a b) refl
   where
-    go : (x : Bool) → lt_z a b ≡ x → off (maxZ a b) ≡ max (off a) (off b)
+    go : (x : Bool) → lt_z a b ≡ x → off (max_z a b) ≡ max (off a) (off b)
     go true e = rw e (let l = lt_yes inf a b i ia ib e in omega arith)
     go false e = rw e (let l = lt_not a b e in omega arith)
 
-pub mate-off : (inf ply : ℕ) → inf ≤ 30000 → ply < inf → off (neg_ℤ (pos inf) +ℤ pos ply) + inf ≡ 32768 + ply
+pub mate_off : (inf ply : ℕ) → inf ≤ 30000 → ply < inf → off (neg_ℤ (pos inf) +ℤ pos ply) + inf ≡ 32768 + ply
 unfolding off
-mate-off zero ply i l = absurd (omega arith)
-mate-off (suc j) ply i l = rw (lt-ltb ply (suc j) l) (omega arith)
+mate_off zero ply i l = absurd (omega arith)
+mate_off (suc j) ply i l = rw (lt-ltb ply (suc j) l) (omega arith)
 
 -- and back: an image tells the integer
-pub off-inj : (inf : ℕ) (a b : ℤ) → inf ≤ 30000 → InZ inf a → InZ inf b → off a ≡ off b → a ≡ b
+pub off_inj : (inf : ℕ) (a b : ℤ) → inf ≤ 30000 → InZ inf a → InZ inf b → off a ≡ off b → a ≡ b
 unfolding off
-off-inj inf (pos a) (pos b) i ia ib e = ap pos (omega arith)
-off-inj inf (pos a) (negsuc b) i ia ib e = absurd (omega arith)
-off-inj inf (negsuc a) (pos b) i ia ib e = absurd (omega arith)
-off-inj inf (negsuc a) (negsuc b) i ia ib e = ap negsuc (omega arith)
+off_inj inf (pos a) (pos b) i ia ib e = ap pos (omega arith)
+off_inj inf (pos a) (negsuc b) i ia ib e = absurd (omega arith)
+off_inj inf (negsuc a) (pos b) i ia ib e = absurd (omega arith)
+off_inj inf (negsuc a) (negsuc b) i ia ib e = ap negsuc (omega arith)

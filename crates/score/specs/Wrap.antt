@@ -23,12 +23,12 @@ unfoldable pub sub16 : ℤ → ℤ → ℤ
 sub16 a b = wrap16 (a -ℤ b)
 
 -- whether two integers are the same
-unfoldable pub eqZ : ℤ → ℤ → Bool
-eqZ (pos a) (pos b) = eqb a b
-eqZ (pos a) (negsuc b) = false
-eqZ (negsuc a) (pos b) = false
-eqZ (negsuc a) (negsuc b) = eqb a b
+unfoldable pub eq_z : ℤ → ℤ → Bool
+eq_z (pos a) (pos b) = eqb a b
+eq_z (pos a) (negsuc b) = false
+eq_z (negsuc a) (pos b) = false
+eq_z (negsuc a) (negsuc b) = eqb a b
 
 -- the greater of two integers
-abbrev pub maxZ : ℤ → ℤ → ℤ
-maxZ a b = cond (lt_z a b) b a
+abbrev pub max_z : ℤ → ℤ → ℤ
+max_z a b = cond (lt_z a b) b a

@@ -2,7 +2,7 @@
 ghost use Rattle.std.specs.Prelude.{◌≡◌, ◌<◌};
 ghost use Rattle.std.specs.Int.Signed.{mag};
 ghost use Rattle.std.specs.Int.{w8, w16};
-ghost use Rattle.score.specs.Wrap.{wrap16, add16, sub16, neg16, eqZ};
+ghost use Rattle.score.specs.Wrap.{wrap16, add16, sub16, neg16, eq_z};
 ghost use Rattle.score.specs.Bits.{bits_of, signed_of};
 
 // s modulo 2^16, as a signed number, where s is one sum away from 16 bits.
@@ -86,7 +86,7 @@ pub fn of_bits8(b: u8) -> i8
 
 // Whether two scores are the same.
 pub fn same16(a: i16, b: i16) -> bool
-    ensures { result ≡ eqZ a b }
+    ensures { result ≡ eq_z a b }
 {
     if a == b { true } else { false }
 }

@@ -1,10 +1,10 @@
 // The node search (000, search_node): a node's visit walks its children, and each child is a visit again.
 ghost use Rattle.std.specs.Prelude.{◌≡◌, ℕ, ◌+◌, ◌-◌, ◌*◌, ◌≤◌, ◌<◌, ◌^◌};
-ghost use Rattle.tree.specs.Blocks.{nodesOf};
+ghost use Rattle.tree.specs.Blocks.{nodes_of};
 ghost use Rattle.moves.specs.Kid.{Kid};
 ghost use Rattle.carry.specs.Carry.{with};
 ghost use Rattle.visits.specs.Reach.{Ready, Reach, Inside, need};
-ghost use Rattle.visits.specs.Search.{captureOf, visitF, deepenF, walkHere, turnF, reducedF, widenF};
+ghost use Rattle.visits.specs.Search.{capture_of, visit_f, deepen_f, walk_here, turn_f, reduced_f, widen_f};
 
 use capture_steps::Capture;
 use carry::{Args, Entered, Here, Loc, Turn};
@@ -51,7 +51,7 @@ fn goes_on(t: Turn) -> Loc
 // At depth 0: captures at depth -1, ply + 1.
 fn capture_of(a: Args) -> Capture
     requires { a.ply + 1 < 2 ^ 64 }
-    ensures { result ≡ captureOf a }
+    ensures { result ≡ capture_of a }
 {
     Capture {
         node: a.node,
@@ -76,7 +76,7 @@ pub fn search_node(
     requires reach { Reach tree.now a }
     ensures { (k : ℕ) → need tree.now a.node a.depth < k →
         with result words.new history.new ≡
-        visitF k tree.now set st words.old history.old a }
+        visit_f k tree.now set st words.old history.old a }
 {
     let s = st.poll(set.limit);
     let stop = s.stop;
@@ -115,7 +115,7 @@ fn deepen(
     requires inside { Inside tree.now here }
     ensures { (k : ℕ) → need tree.now here.node here.depth ≤ k + 1 →
         with result words.new history.new ≡
-        deepenF (visitF k tree.now set) tree.now set here loc words.old history.old }
+        deepen_f (visit_f k tree.now set) tree.now set here loc words.old history.old }
 {
     if enter::deepens(set, here, loc) {
         let st = loc.state;
@@ -139,7 +139,7 @@ fn walk(
     requires inside { Inside tree.now here }
     ensures { (k : ℕ) → need tree.now here.node 0 ≤ k →
         with result words.new history.new ≡
-        walkHere (visitF k tree.now set) tree.now set here loc words.old history.old }
+        walk_here (visit_f k tree.now set) tree.now set here loc words.old history.old }
 {
     let k = here.node;
     let n = node::child_count(tree, k);
@@ -177,7 +177,7 @@ fn turn(
     requires i_bound { i < 63 }
     ensures { (k : ℕ) → need tree.now here.node 0 ≤ k →
         with result words.new history.new ≡
-        turnF (visitF k tree.now set) tree.now set here c i loc words.old history.old }
+        turn_f (visit_f k tree.now set) tree.now set here c i loc words.old history.old }
 {
     let l = window::counted(loc);
     let st = l.state;
@@ -212,7 +212,7 @@ fn reduced(
     requires d_bound { 1 + d ≤ here.depth }
     ensures { (k : ℕ) → need tree.now here.node 0 ≤ k →
         with result words.new history.new ≡
-        reducedF (visitF k tree.now set) here loc c d words.old history.old }
+        reduced_f (visit_f k tree.now set) here loc c d words.old history.old }
 {
     let st = loc.state;
     let r = search_node(tree, words, history, set, st, window::null(here, loc, c, d));
@@ -241,7 +241,7 @@ fn widened(
     requires kid { Kid tree.now here.node c }
     ensures { (k : ℕ) → need tree.now here.node 0 ≤ k →
         with result words.new history.new ≡
-        widenF (visitF k tree.now set) here loc c (with r words.old history.old) }
+        widen_f (visit_f k tree.now set) here loc c (with r words.old history.old) }
 {
     if window::inside(here, loc, r) {
         let s = r.state;

@@ -2,10 +2,10 @@
 -- entry. Assumes nothing.
 use Rattle.std.specs.Prelude.{Bool, true, false, List, ℕ, ◌*◌, ℤ, pos, replicate}
 use Rattle.table.specs.Stats.{zeroed}
-use Rattle.record.specs.Node.{count_of, evalOf, move_of, hashOf, inCheck, isQuiet}
+use Rattle.record.specs.Node.{count_of, eval_of, move_of, hash_of, in_check, is_quiet}
 use Rattle.state.specs.declared.Settings.{Settings}
 use Rattle.results.specs.declared.RootResult.{RootResult}
-use Rattle.desk.specs.RootEntry.{rootEntry}
+use Rattle.desk.specs.RootEntry.{root_entry}
 
 pub record Node : Type 0 where
   pub children : ℕ
@@ -15,11 +15,11 @@ pub record Node : Type 0 where
   pub mv : ℕ
   pub hash : ℕ
 
-abbrev pub nodeAt : List ℕ → ℕ → Node
-nodeAt t k =
-    record { children = count_of t k; check = inCheck t k; quiet = isQuiet t k; eval = evalOf t k; mv = move_of t k; hash = hashOf t k }
+abbrev pub node_at : List ℕ → ℕ → Node
+node_at t k =
+    record { children = count_of t k; check = in_check t k; quiet = is_quiet t k; eval = eval_of t k; mv = move_of t k; hash = hash_of t k }
 
--- 01, Visits: "The six switches: table, delta, reverse futility, futility, late-move, inner deepening."
+-- 01, Visits: "The six switches: table, delta, reverse futility, futility, late_move, inner deepening."
 pub record Switches : Type 0 where
   pub table : Bool
   pub delta : Bool
@@ -28,11 +28,11 @@ pub record Switches : Type 0 where
   pub late : Bool
   pub inner : Bool
 
-abbrev pub allOff : Switches
-allOff = record { table = false; delta = false; reverse = false; futility = false; late = false; inner = false }
+abbrev pub all_off : Switches
+all_off = record { table = false; delta = false; reverse = false; futility = false; late = false; inner = false }
 
-abbrev pub allOn : Switches
-allOn = record { table = true; delta = true; reverse = true; futility = true; late = true; inner = true }
+abbrev pub all_on : Switches
+all_on = record { table = true; delta = true; reverse = true; futility = true; late = true; inner = true }
 
 -- 01, Entries on both sides: "INF 30,000, MAX_PLY 128, HH_MAX 16,384, side 0, limit 1,000,000"
 abbrev pub settings : Switches → Settings
@@ -73,7 +73,7 @@ answer_of r =
 
 -- the root search's entry, from depth 1 to end - 1, in a table of so many entries that is empty and of age 0
 abbrev pub searched : List ℕ → Switches → ℕ → ℕ → Answer
-searched t s entries end = answer_of (rootEntry t (settings s) (zeroed 0) (pos 1) (pos end) (empty entries) zeros).it
+searched t s entries end = answer_of (root_entry t (settings s) (zeroed 0) (pos 1) (pos end) (empty entries) zeros).it
 
 -- neither refused nor stopped, with this score, move, last depth and node count
 abbrev pub gives : ℤ → ℕ → ℕ → ℕ → Answer

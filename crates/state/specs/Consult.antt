@@ -1,6 +1,6 @@
 -- What the table makes of a window. Assumes nothing.
 use Rattle.std.specs.Prelude.{ℕ, Bool, true, false, cond, ◌&&◌, ℤ, pos, int_le, int_lt}
-use Rattle.score.specs.Wrap.{maxZ}
+use Rattle.score.specs.Wrap.{max_z}
 use Rattle.transposition.specs.declared.Bound.{Bound}
 use Rattle.transposition.specs.declared.Bound.TheVariants.{Exact, Lower, Upper}
 use Rattle.transposition.specs.declared.Entry.{Entry}
@@ -17,27 +17,27 @@ abbrev pub narrowed : Entry → ℤ → ℤ → Consulted
 narrowed e alpha beta = record { cut = int_le beta alpha; score = e.score; alpha = alpha; beta = beta; hint = e.mv }
 
 -- 000: an Exact score is the answer, a Lower one raises alpha, an Upper one lowers beta
-unfoldable pub byBound : Bound → Entry → ℤ → ℤ → Consulted
-byBound Exact e alpha beta = record { cut = true; score = e.score; alpha = alpha; beta = beta; hint = e.mv }
-byBound Lower e alpha beta = narrowed e (maxZ alpha e.score) beta
-byBound Upper e alpha beta = narrowed e alpha (cond (int_lt e.score beta) e.score beta)
+unfoldable pub by_bound : Bound → Entry → ℤ → ℤ → Consulted
+by_bound Exact e alpha beta = record { cut = true; score = e.score; alpha = alpha; beta = beta; hint = e.mv }
+by_bound Lower e alpha beta = narrowed e (max_z alpha e.score) beta
+by_bound Upper e alpha beta = narrowed e alpha (cond (int_lt e.score beta) e.score beta)
 
-abbrev pub useOf : Entry → ℤ → ℤ → Consulted
-useOf e alpha beta = byBound e.bound e alpha beta
+abbrev pub use_of : Entry → ℤ → ℤ → Consulted
+use_of e alpha beta = by_bound e.bound e alpha beta
 
-unfoldable pub useIf : Bool → Entry → ℤ → ℤ → Consulted
-useIf true e alpha beta = useOf e alpha beta
-useIf false e alpha beta = stay e.score e.mv alpha beta
+unfoldable pub use_if : Bool → Entry → ℤ → ℤ → Consulted
+use_if true e alpha beta = use_of e alpha beta
+use_if false e alpha beta = stay e.score e.mv alpha beta
 
 -- 01, Visits: "In the node search a table cutoff or a table bound on the window is taken only when alpha is beta - 1 and stored depth >= depth;
 -- in captures stored depth >= depth is enough."
-unfoldable pub consultOf : Found → Bool → ℤ → ℤ → ℤ → Consulted
-consultOf Miss usable depth alpha beta = stay (pos 0) 0 alpha beta
-consultOf Collision usable depth alpha beta = stay (pos 0) 0 alpha beta
-consultOf (Hit e) usable depth alpha beta = useIf (usable && int_le depth e.depth) e alpha beta
+unfoldable pub consult_of : Found → Bool → ℤ → ℤ → ℤ → Consulted
+consult_of Miss usable depth alpha beta = stay (pos 0) 0 alpha beta
+consult_of Collision usable depth alpha beta = stay (pos 0) 0 alpha beta
+consult_of (Hit e) usable depth alpha beta = use_if (usable && int_le depth e.depth) e alpha beta
 
 -- the move that a lookup gives to be tried first, 0 where there is none
-unfoldable pub hintOf : Found → ℕ
-hintOf Miss = 0
-hintOf Collision = 0
-hintOf (Hit e) = e.mv
+unfoldable pub hint_of : Found → ℕ
+hint_of Miss = 0
+hint_of Collision = 0
+hint_of (Hit e) = e.mv

@@ -5,7 +5,7 @@ use Rattle.table.specs.declared.Stats.{Stats}
 use Rattle.table.specs.declared.Looked.{Looked}
 use Rattle.table.specs.declared.Found.{Found}
 use Rattle.table.specs.declared.Found.TheVariants.{Miss}
-use Rattle.table.specs.Table.{Table, lookupOf, store_of}
+use Rattle.table.specs.Table.{Table, lookup_of, store_of}
 use Rattle.state.specs.declared.State.{State}
 use Rattle.state.specs.declared.Out.{Out}
 use Rattle.state.specs.declared.Seen.{Seen}
@@ -19,30 +19,30 @@ abbrev pub over : {A : Type 0} → A → List ℕ → Over A
 over x words = record { it = x; words = words }
 
 -- 01, History and clock: "The search uses only a limit poll: it stops when nodes >= limit"; "A stop stays"
-unfoldable pub pollOf : ℕ → State → State
-pollOf limit s = record { nodes = s.nodes; stop = nat_le limit s.nodes || s.stop; stats = s.stats }
+unfoldable pub poll_of : ℕ → State → State
+poll_of limit s = record { nodes = s.nodes; stop = nat_le limit s.nodes || s.stop; stats = s.stats }
 
 -- 01, Refusal numbers: "Counts are 64-bit .. sums .. wrap"
-unfoldable pub countNode : State → State
-countNode s = record { nodes = (s.nodes + 1) % 2 ^ 64; stop = s.stop; stats = s.stats }
+unfoldable pub count_node : State → State
+count_node s = record { nodes = (s.nodes + 1) % 2 ^ 64; stop = s.stop; stats = s.stats }
 
 abbrev pub answer_of : ℤ → State → Out
 answer_of x s = record { score = x; state = s }
 
-abbrev pub withStats : State → Stats → State
-withStats s c = record { nodes = s.nodes; stop = s.stop; stats = c }
+abbrev pub with_stats : State → Stats → State
+with_stats s c = record { nodes = s.nodes; stop = s.stop; stats = c }
 
-abbrev pub seenBy : State → Looked → Seen
-seenBy s l = record { found = l.found; state = withStats s l.stats }
+abbrev pub seen_by : State → Looked → Seen
+seen_by s l = record { found = l.found; state = with_stats s l.stats }
 
 -- 01, Visits: "With the table switch off, table, age and counters are untouched."
-unfoldable pub seenOf : Bool → List ℕ → State → ℕ → Seen
-seenOf false words s hash = record { found = Miss; state = s }
-seenOf true words s hash = seenBy s (lookupOf words s.stats hash)
+unfoldable pub seen_of : Bool → List ℕ → State → ℕ → Seen
+seen_of false words s hash = record { found = Miss; state = s }
+seen_of true words s hash = seen_by s (lookup_of words s.stats hash)
 
-abbrev pub keptIn : State → Table → Over State
-keptIn s t = over (withStats s t.stats) t.words
+abbrev pub kept_in : State → Table → Over State
+kept_in s t = over (with_stats s t.stats) t.words
 
-unfoldable pub keepOf : Bool → List ℕ → State → ℕ → ℤ → ℤ → ℕ → Bound → Over State
-keepOf false words s hash depth score mv bound = over s words
-keepOf true words s hash depth score mv bound = keptIn s (store_of words s.stats hash depth score mv bound)
+unfoldable pub keep_of : Bool → List ℕ → State → ℕ → ℤ → ℤ → ℕ → Bound → Over State
+keep_of false words s hash depth score mv bound = over s words
+keep_of true words s hash depth score mv bound = kept_in s (store_of words s.stats hash depth score mv bound)

@@ -1,7 +1,7 @@
 // What both kinds of visit share: the settings, the state of a search, the poll, the count, and the table through its switch.
 ghost use Rattle.std.specs.Prelude.{◌≡◌, ◌≤◌, ◌&&◌, length, int_le};
-ghost use Rattle.state.specs.State.{pollOf, countNode, answer_of, seenOf, over, keepOf};
-ghost use Rattle.state.specs.Consult.{narrowed, useOf, useIf, consultOf, hintOf};
+ghost use Rattle.state.specs.State.{poll_of, count_node, answer_of, seen_of, over, keep_of};
+ghost use Rattle.state.specs.Consult.{narrowed, use_of, use_if, consult_of, hint_of};
 
 use table::{Found, Stats};
 use transposition::{Bound, Entry};
@@ -57,7 +57,7 @@ pub struct Consulted {
 impl State {
     // The limit poll. A stop stays.
     pub fn poll(self, limit: u64) -> State
-        ensures { result ≡ pollOf limit self }
+        ensures { result ≡ poll_of limit self }
     {
         let mut s = self;
         if limit <= s.nodes {
@@ -68,7 +68,7 @@ impl State {
 
     // One node more.
     pub fn count_node(self) -> State
-        ensures { result ≡ countNode self }
+        ensures { result ≡ count_node self }
     {
         let mut s = self;
         s.nodes = std::num::wrapping_add_u64(s.nodes, 1);
@@ -88,7 +88,7 @@ impl State {
     // A lookup, if the table switch is on; else a miss that is not counted.
     pub fn look(self, words: &[u64], on: bool, hash: u64) -> Seen
         requires { 2 ≤ length words.now }
-        ensures { result ≡ seenOf on words.now self hash }
+        ensures { result ≡ seen_of on words.now self hash }
     {
         if on {
             let stats = self.stats;
@@ -120,7 +120,7 @@ impl State {
         bound: Bound,
     ) -> State
         requires { 2 ≤ length words.old }
-        ensures { over result words.new ≡ keepOf on words.old self hash depth score mv bound }
+        ensures { over result words.new ≡ keep_of on words.old self hash depth score mv bound }
     {
         if on {
             let stats = self.stats;
@@ -148,7 +148,7 @@ fn narrow(e: Entry, alpha: i16, beta: i16) -> Consulted
 
 // What a stored entry makes of the window, where its depth is enough.
 fn use_entry(e: Entry, alpha: i16, beta: i16) -> Consulted
-    ensures { result ≡ useOf e alpha beta }
+    ensures { result ≡ use_of e alpha beta }
 {
     let bound = e.bound;
     let score = e.score;
@@ -183,7 +183,7 @@ fn counts(e: Entry, usable: bool, depth: i8) -> bool
 }
 
 fn consult_entry(e: Entry, usable: bool, depth: i8, alpha: i16, beta: i16) -> Consulted
-    ensures { result ≡ useIf (usable && int_le depth e.depth) e alpha beta }
+    ensures { result ≡ use_if (usable && int_le depth e.depth) e alpha beta }
 {
     if counts(e, usable, depth) {
         return use_entry(e, alpha, beta);
@@ -199,7 +199,7 @@ fn consult_entry(e: Entry, usable: bool, depth: i8, alpha: i16, beta: i16) -> Co
 
 // What a lookup makes of the window.
 pub fn consult(found: Found, usable: bool, depth: i8, alpha: i16, beta: i16) -> Consulted
-    ensures { result ≡ consultOf found usable depth alpha beta }
+    ensures { result ≡ consult_of found usable depth alpha beta }
 {
     match found {
         Found::Hit(e) => consult_entry(e, usable, depth, alpha, beta),
@@ -222,7 +222,7 @@ pub fn consult(found: Found, usable: bool, depth: i8, alpha: i16, beta: i16) -> 
 
 // The move of an entry that was found, 0 where none was.
 pub fn hint_of(found: Found) -> u16
-    ensures { result ≡ hintOf found }
+    ensures { result ≡ hint_of found }
 {
     match found {
         Found::Hit(e) => e.mv,

@@ -13,5 +13,5 @@ module _ {A : Type 0} (v : A) where
   fill_more n d l h e = ap (λ (x : List A). set x n v) e ∙ rw add-one (fill_suc n d h)
 
   -- the last one
-  pub fill-all : (n : ℕ) (d l : List A) → n ≡ length d → l ≡ replicate n v ++ drop n d → l ≡ replicate (length d) v
-  fill-all n d l h e = e ∙ ap (λ (k : ℕ). replicate k v ++ drop k d) h ∙ ap (λ (x : List A). replicate (length d) v ++ x) (drop-length d) ∙ append-nil (replicate (length d) v)
+  pub fill_all : (n : ℕ) (d l : List A) → n ≡ length d → l ≡ replicate n v ++ drop n d → l ≡ replicate (length d) v
+  fill_all n d l h e = e ∙ ap (λ (k : ℕ). replicate k v ++ drop k d) h ∙ ap (λ (x : List A). replicate (length d) v ++ x) (drop-length d) ∙ append-nil (replicate (length d) v)

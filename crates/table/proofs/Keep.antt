@@ -1,38 +1,38 @@
 -- What a store leaves, by its two cases, and that it keeps the table's length. Assumes nothing.
 use Rattle.std.proofs.Common.{◌≡◌, ℕ, ◌+◌, ◌/◌, ◌≤◌, Bool, true, false, List, length, get_or, set, ℤ, sym, refl, ap, ◌∙◌, ap₂, mod-lt, arith, length-set}
-use Rattle.transposition.specs.Word.{dataWord, entry_of, hashWord}
+use Rattle.transposition.specs.Word.{data_word, entry_of, hash_word}
 use Rattle.transposition.specs.declared.Bound.{Bound}
 use Rattle.transposition.specs.declared.Entry.{Entry}
 use Rattle.table.specs.Slot.{slot_of, entry_at, replaces, put}
 use Rattle.table.specs.Stats.{inserted}
-use Rattle.table.specs.Table.{table_of, newEntry, storeIf, store_of}
+use Rattle.table.specs.Table.{table_of, new_entry, store_if, store_of}
 use Rattle.table.specs.declared.Stats.{Stats}
 
 -- the slot of a hash lies in the table
-pub slot-in : (words hash : ℕ) → 2 ≤ words → slot_of words hash + 2 ≤ words
+pub slot_in : (words hash : ℕ) → 2 ≤ words → slot_of words hash + 2 ≤ words
 unfolding slot_of
-slot-in words hash long = omega (arith, mod-lt hash {m = words / 2} (omega arith))
+slot_in words hash long = omega (arith, mod-lt hash {m = words / 2} (omega arith))
 
 module _ (words : List ℕ) (stats : Stats) (hash : ℕ) (depth score : ℤ) (mv : ℕ) (bound : Bound) where
   -- where a store does not replace, it changes no word, no counter and not the age
   pub store_keeps : replaces (entry_at words hash) stats.age depth ≡ false → store_of words stats hash depth score mv bound ≡ table_of words stats
-  unfolding store_of storeIf
-  store_keeps n = ap (λ (b : Bool). storeIf b words stats hash (newEntry stats depth score mv bound)) n
+  unfolding store_of store_if
+  store_keeps n = ap (λ (b : Bool). store_if b words stats hash (new_entry stats depth score mv bound)) n
 
   -- where it replaces, the entry's words are in the slot, and an insert is counted
-  pub store-puts : replaces (entry_at words hash) stats.age depth ≡ true → store_of words stats hash depth score mv bound ≡ table_of (put words (slot_of (length words) hash) hash (newEntry stats depth score mv bound)) (inserted stats)
-  unfolding store_of storeIf
-  store-puts y = ap (λ (b : Bool). storeIf b words stats hash (newEntry stats depth score mv bound)) y
+  pub store_puts : replaces (entry_at words hash) stats.age depth ≡ true → store_of words stats hash depth score mv bound ≡ table_of (put words (slot_of (length words) hash) hash (new_entry stats depth score mv bound)) (inserted stats)
+  unfolding store_of store_if
+  store_puts y = ap (λ (b : Bool). store_if b words stats hash (new_entry stats depth score mv bound)) y
 
-  length-if : (b : Bool) (e : Entry) → length (storeIf b words stats hash e).words ≡ length words
-  unfolding storeIf
+  length-if : (b : Bool) (e : Entry) → length (store_if b words stats hash e).words ≡ length words
+  unfolding store_if
   length-if true e = simp length-set
   length-if false e = refl
 
   -- a store keeps the table's length
   pub store_length : length (store_of words stats hash depth score mv bound).words ≡ length words
   unfolding store_of
-  store_length = length-if (replaces (entry_at words hash) stats.age depth) (newEntry stats depth score mv bound)
+  store_length = length-if (replaces (entry_at words hash) stats.age depth) (new_entry stats depth score mv bound)
 
   -- the same two cases by what the code has at k, where the slot starts
   module _ (k : ℕ) (at : k ≡ slot_of (length words) hash) (old : Entry) (is : old ≡ entry_of (get_or words (k + 1) 0)) (r : Bool) (rule : r ≡ replaces old stats.age depth) where
@@ -42,9 +42,9 @@ module _ (words : List ℕ) (stats : Stats) (hash : ℕ) (depth score : ℤ) (mv
     pub kept : r ≡ false → table_of words stats ≡ store_of words stats hash depth score mv bound
     kept n = sym (store_keeps (sym ruled ∙ n))
 
-    pub stored : (d h : ℕ) (s : Stats) → d ≡ dataWord (newEntry stats depth score mv bound) → h ≡ hashWord hash d → s ≡ inserted stats → r ≡ true → table_of (set (set words k h) (k + 1) d) s ≡ store_of words stats hash depth score mv bound
+    pub stored : (d h : ℕ) (s : Stats) → d ≡ data_word (new_entry stats depth score mv bound) → h ≡ hash_word hash d → s ≡ inserted stats → r ≡ true → table_of (set (set words k h) (k + 1) d) s ≡ store_of words stats hash depth score mv bound
     stored d h s qd qh qs y =
         ap (λ (x : ℕ). table_of (set (set words k x) (k + 1) d) s) qh
-        ∙ ap (λ (x : Stats). table_of (set (set words k (hashWord hash d)) (k + 1) d) x) qs
-        ∙ ap₂ (λ (j x : ℕ). table_of (set (set words j (hashWord hash x)) (j + 1) x) (inserted stats)) at qd
-        ∙ sym (store-puts (sym ruled ∙ y))
+        ∙ ap (λ (x : Stats). table_of (set (set words k (hash_word hash d)) (k + 1) d) x) qs
+        ∙ ap₂ (λ (j x : ℕ). table_of (set (set words j (hash_word hash x)) (j + 1) x) (inserted stats)) at qd
+        ∙ sym (store_puts (sym ruled ∙ y))

@@ -1,7 +1,7 @@
 -- The sizes that a table may have: what the test means, both ways, and a turn of it. Assumes nothing.
 use Rattle.std.proofs.Common.{◌≡◌, ℕ, zero, suc, ◌+◌, ◌*◌, ◌/◌, ◌^◌, ◌<◌, ◌≤◌, Bool, true, false, ◌||◌, eqb, sym, refl, ap, ◌∙◌, subst, add-one, arith, pow_pos, pow_mono, pow-add, eq-eqb, ne_eqb, eqb-true}
 use mathlib.Core.Bool.{false≢true}
-use Rattle.table.specs.Table.{sizedTo, wellSized}
+use Rattle.table.specs.Table.{sized_to, well_sized}
 
 -- a power of two, 1 to 65,536
 pub record TwoPower (n : ℕ) : Type 0 where
@@ -21,12 +21,12 @@ record At (k words : ℕ) : Type 0 where
   pub small : j < k
   pub is : words ≡ 2 * 2 ^ j
 
-at_one : (k words : ℕ) → sizedTo k words ≡ true → At k words
-unfolding sizedTo
+at_one : (k words : ℕ) → sized_to k words ≡ true → At k words
+unfolding sized_to
 at_one zero words e = absurd (false≢true e)
 at_one (suc k) words e = go (eqb words (2 * 2 ^ k)) refl e (at_one k words)
   where
-    go : (b : Bool) → eqb words (2 * 2 ^ k) ≡ b → (b || sizedTo k words) ≡ true → (sizedTo k words ≡ true → At k words) → At (suc k) words
+    go : (b : Bool) → eqb words (2 * 2 ^ k) ≡ b → (b || sized_to k words) ≡ true → (sized_to k words ≡ true → At k words) → At (suc k) words
     go true q e f = record { j = k; small = omega arith; is = eqb-true words (2 * 2 ^ k) q }
     go false q e f = let s = f e in record { j = s.j; small = omega arith; is = s.is }
 
@@ -34,8 +34,8 @@ half : (x w : ℕ) → w ≡ 2 * x → w / 2 ≡ x
 half x w e = omega arith
 
 -- the test is met only by 2n words, n a power of two, 1 to 65,536
-pub well-sized : (words : ℕ) → wellSized words ≡ true → Sized words
-well-sized words e =
+pub well_sized_lem : (words : ℕ) → well_sized words ≡ true → Sized words
+well_sized_lem words e =
     let s = at_one 17 words e in
     let h = half (2 ^ s.j) words s.is in
     let low = pow_pos s.j in
@@ -48,12 +48,12 @@ well-sized words e =
     }
 
 -- and by all of them
-one_at : (k words j : ℕ) → j < k → words ≡ 2 * 2 ^ j → sizedTo k words ≡ true
-unfolding sizedTo
+one_at : (k words j : ℕ) → j < k → words ≡ 2 * 2 ^ j → sized_to k words ≡ true
+unfolding sized_to
 one_at zero words j l e = absurd (omega arith)
 one_at (suc k) words j l e = go (eqb words (2 * 2 ^ k)) refl (λ m. one_at k words j m e)
   where
-    go : (b : Bool) → eqb words (2 * 2 ^ k) ≡ b → (j < k → sizedTo k words ≡ true) → (b || sizedTo k words) ≡ true
+    go : (b : Bool) → eqb words (2 * 2 ^ k) ≡ b → (j < k → sized_to k words ≡ true) → (b || sized_to k words) ≡ true
     go true q f = refl
     go false q f = f (below (λ p. other (e ∙ ap (λ (i : ℕ). 2 * 2 ^ i) p)))
       where
@@ -63,23 +63,23 @@ one_at (suc k) words j l e = go (eqb words (2 * 2 ^ k)) refl (λ m. one_at k wor
         below : (j ≡ k → ⊥) → j < k
         below n = omega arith
 
-pub sized-well : (words : ℕ) → Sized words → wellSized words ≡ true
-sized-well words s = one_at 17 words s.power.k (omega (arith, s.power.small)) (s.twice ∙ ap (λ (x : ℕ). 2 * x) s.power.is)
+pub sized_well : (words : ℕ) → Sized words → well_sized words ≡ true
+sized_well words s = one_at 17 words s.power.k (omega (arith, s.power.small)) (s.twice ∙ ap (λ (x : ℕ). 2 * x) s.power.is)
 
 -- one turn of the test: the sizes passed, and the next one
-module _ (words k size : ℕ) (ok : Bool) (is : size ≡ 2 * 2 ^ k) (passed : ok ≡ sizedTo k words) where
-  turn : (eqb words size || ok) ≡ sizedTo (k + 1) words
-  unfolding sizedTo
-  turn = ap (λ (x : ℕ). eqb words x || ok) is ∙ ap (λ (b : Bool). eqb words (2 * 2 ^ k) || b) passed ∙ ap (λ (i : ℕ). sizedTo i words) (sym (add-one k))
+module _ (words k size : ℕ) (ok : Bool) (is : size ≡ 2 * 2 ^ k) (passed : ok ≡ sized_to k words) where
+  turn : (eqb words size || ok) ≡ sized_to (k + 1) words
+  unfolding sized_to
+  turn = ap (λ (x : ℕ). eqb words x || ok) is ∙ ap (λ (b : Bool). eqb words (2 * 2 ^ k) || b) passed ∙ ap (λ (i : ℕ). sized_to i words) (sym (add-one k))
 
-  pub size-met : words ≡ size → true ≡ sizedTo (k + 1) words
-  size-met e = ap (λ (b : Bool). b || ok) (sym (eq-eqb words size e)) ∙ turn
+  pub size_met : words ≡ size → true ≡ sized_to (k + 1) words
+  size_met e = ap (λ (b : Bool). b || ok) (sym (eq-eqb words size e)) ∙ turn
 
-  pub size-not : (words ≡ size → ⊥) → ok ≡ sizedTo (k + 1) words
-  size-not n = ap (λ (b : Bool). b || ok) (sym (ne_eqb words size n)) ∙ turn
+  pub size_not : (words ≡ size → ⊥) → ok ≡ sized_to (k + 1) words
+  size_not n = ap (λ (b : Bool). b || ok) (sym (ne_eqb words size n)) ∙ turn
 
-  pub size-next : size * 2 ≡ 2 * 2 ^ (k + 1)
-  size-next = let p = pow-add 2 k 1 in omega (arith, is, p)
+  pub size_next : size * 2 ≡ 2 * 2 ^ (k + 1)
+  size_next = let p = pow-add 2 k 1 in omega (arith, is, p)
 
-  pub size-bound : k < 17 → size ≤ 131072
-  size-bound l = let p : 2 ^ k ≤ 2 ^ 16 = pow_mono {i = k} {j = 16} (omega arith) in omega (arith, is, p)
+  pub size_bound : k < 17 → size ≤ 131072
+  size_bound l = let p : 2 ^ k ≤ 2 ^ 16 = pow_mono {i = k} {j = 16} (omega arith) in omega (arith, is, p)

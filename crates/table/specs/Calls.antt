@@ -1,9 +1,9 @@
 -- Calls of the table, what they leave, and what the lookups among them found: by these the law of the counters is stated. Assumes nothing.
 use Rattle.std.specs.Prelude.{ℕ, ◌+◌, List, [], ◌∷◌, ℤ}
 use Rattle.transposition.specs.declared.Bound.{Bound}
-use Rattle.table.specs.Slot.{findOf}
-use Rattle.table.specs.Stats.{resetOf}
-use Rattle.table.specs.Table.{Table, table_of, lookupOf, store_of, clearOf}
+use Rattle.table.specs.Slot.{find_of}
+use Rattle.table.specs.Stats.{reset_of}
+use Rattle.table.specs.Table.{Table, table_of, lookup_of, store_of, clear_of}
 use Rattle.table.specs.declared.Found.{Found}
 use Rattle.table.specs.declared.Found.TheVariants.{Miss, Collision, Hit}
 
@@ -16,10 +16,10 @@ pub data Call : Type 0 where
 
 -- the table that a call leaves
 unfoldable pub after : Table → Call → Table
-after t (lookup hash) = table_of t.words (lookupOf t.words t.stats hash).stats
+after t (lookup hash) = table_of t.words (lookup_of t.words t.stats hash).stats
 after t (store hash depth score mv bound) = store_of t.words t.stats hash depth score mv bound
-after t reset = table_of t.words (resetOf t.stats)
-after t clear = clearOf t.words
+after t reset = table_of t.words (reset_of t.stats)
+after t clear = clear_of t.words
 
 -- the table that several calls leave, one after the other
 unfoldable pub run : Table → List Call → Table
@@ -27,16 +27,16 @@ run t [] = t
 run t (c ∷ cs) = run (after t c) cs
 
 -- what the lookups have found since the last reset or clear, newest first, after one call more
-unfoldable pub foundAfter : Table → List Found → Call → List Found
-foundAfter t fs (lookup hash) = findOf t.words hash ∷ fs
-foundAfter t fs (store hash depth score mv bound) = fs
-foundAfter t fs reset = []
-foundAfter t fs clear = []
+unfoldable pub found_after : Table → List Found → Call → List Found
+found_after t fs (lookup hash) = find_of t.words hash ∷ fs
+found_after t fs (store hash depth score mv bound) = fs
+found_after t fs reset = []
+found_after t fs clear = []
 
 -- and after several
-unfoldable pub foundIn : Table → List Found → List Call → List Found
-foundIn t fs [] = fs
-foundIn t fs (c ∷ cs) = foundIn (after t c) (foundAfter t fs c) cs
+unfoldable pub found_in : Table → List Found → List Call → List Found
+found_in t fs [] = fs
+found_in t fs (c ∷ cs) = found_in (after t c) (found_after t fs c) cs
 
 -- one for each of the kind, none for another
 abbrev pub hit : Found → ℕ

@@ -1,8 +1,8 @@
 // The transposition table (001) over lent words: what stands at a hash, what a store leaves, the age and the five counters.
 ghost use Rattle.std.specs.Prelude.{◌≡◌, ◌+◌, ◌≤◌, length};
-ghost use Rattle.table.specs.Slot.{slot_of, findOf, replaces};
-ghost use Rattle.table.specs.Stats.{looked, inserted, resetOf};
-ghost use Rattle.table.specs.Table.{table_of, lookupOf, store_of, clearOf, wellSized};
+ghost use Rattle.table.specs.Slot.{slot_of, find_of, replaces};
+ghost use Rattle.table.specs.Stats.{looked, inserted, reset_of};
+ghost use Rattle.table.specs.Table.{table_of, lookup_of, store_of, clear_of, well_sized};
 
 use transposition::{Bound, Entry};
 
@@ -64,7 +64,7 @@ impl Stats {
 
     // The next age, and counters of 0: what a search begins with.
     pub fn reset(self) -> Stats
-        ensures { result ≡ resetOf self }
+        ensures { result ≡ reset_of self }
     {
         let age = if self.age >= 254 { 0 } else { self.age + 1 };
         Stats {
@@ -90,7 +90,7 @@ fn slot(words: usize, hash: u64) -> usize
 // What stands at a hash: a miss, a collision, or a hit with its entry.
 pub fn find(words: &[u64], hash: u64) -> Found
     requires { 2 ≤ length words.now }
-    ensures { result ≡ findOf words.now hash }
+    ensures { result ≡ find_of words.now hash }
 {
     let k = slot(words.len(), hash);
     let h = words[k];
@@ -109,7 +109,7 @@ pub fn find(words: &[u64], hash: u64) -> Found
 // What stands at a hash, counted.
 pub fn lookup(words: &[u64], stats: Stats, hash: u64) -> Looked
     requires { 2 ≤ length words.now }
-    ensures { result ≡ lookupOf words.now stats hash }
+    ensures { result ≡ lookup_of words.now stats hash }
 {
     let found = find(words, hash);
     let counted = stats.looked(found);
@@ -163,7 +163,7 @@ pub fn store(
 
 // Words, age and counters of 0.
 pub fn clear(words: &mut [u64]) -> Stats
-    ensures { table_of words.new result ≡ clearOf words.old }
+    ensures { table_of words.new result ≡ clear_of words.old }
 {
     let mut i = 0;
     while i < words.len() {
@@ -182,7 +182,7 @@ pub fn clear(words: &mut [u64]) -> Stats
 
 // Whether a table may have so many words: one of the 17 sizes, each twice the one before.
 pub fn well_sized(words: usize) -> bool
-    ensures { result ≡ wellSized words }
+    ensures { result ≡ well_sized words }
 {
     let mut ok = false;
     let mut size = 2;

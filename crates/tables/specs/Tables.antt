@@ -6,80 +6,80 @@ use Rattle.table.specs.declared.Found.TheVariants.{Miss}
 use Rattle.table.specs.declared.Looked.{Looked}
 use Rattle.table.specs.declared.Stats.{Stats}
 use Rattle.percentages.specs.declared.occupancy.Occupancy.{Occupancy}
-use Rattle.table.specs.Stats.{resetOf}
-use Rattle.table.specs.Table.{Table, lookupOf, store_of, clearOf}
-use Rattle.percentages.specs.Occupancy.{occupancyOf, Exactly}
+use Rattle.table.specs.Stats.{reset_of}
+use Rattle.table.specs.Table.{Table, lookup_of, store_of, clear_of}
+use Rattle.percentages.specs.Occupancy.{occupancy_of, Exactly}
 use Rattle.state.specs.State.{Over, over}
-use Rattle.refusals.specs.Rows.{tableRight}
+use Rattle.refusals.specs.Rows.{table_right}
 use Rattle.refusals.specs.First.{unless}
 use Rattle.tables.specs.declared.LookupResult.{LookupResult}
 use Rattle.tables.specs.declared.StatsResult.{StatsResult}
 use Rattle.tables.specs.declared.OccupancyResult.{OccupancyResult}
 
 -- 01, row 8: "table isn't 2n words, n a power of two, 1 to 65,536"; "an entry tests only what it takes", here the table
-unfoldable pub tableRows : List ℕ → ℕ
-tableRows words = unless (tableRight words) 8 0
+unfoldable pub table_rows : List ℕ → ℕ
+table_rows words = unless (table_right words) 8 0
 
 -- 01, Refusal numbers: "A refusal returns its number with every result number 0, and lent memory is unchanged; clock, age and counters come back
 -- from a refused call as they went in." In each answer below the first clause is a call that is not refused, the second one that is.
 
-abbrev pub lookupGiven : Looked → LookupResult
-lookupGiven l = record { refusal = 0; found = l.found; stats = l.stats }
+abbrev pub lookup_given : Looked → LookupResult
+lookup_given l = record { refusal = 0; found = l.found; stats = l.stats }
 
-abbrev pub lookupRefused : ℕ → Stats → LookupResult
-lookupRefused r stats = record { refusal = r; found = Miss; stats = stats }
+abbrev pub lookup_refused : ℕ → Stats → LookupResult
+lookup_refused r stats = record { refusal = r; found = Miss; stats = stats }
 
 -- 01, Entry and table: "Lookup: move 0 is a miss even where the hash fits; else a wrong XOR is a collision; else a hit."
-unfoldable pub lookupAnswer : ℕ → List ℕ → Stats → ℕ → LookupResult
-lookupAnswer zero words stats hash = lookupGiven (lookupOf words stats hash)
-lookupAnswer (suc r) words stats hash = lookupRefused (suc r) stats
+unfoldable pub lookup_answer : ℕ → List ℕ → Stats → ℕ → LookupResult
+lookup_answer zero words stats hash = lookup_given (lookup_of words stats hash)
+lookup_answer (suc r) words stats hash = lookup_refused (suc r) stats
 
-abbrev pub lookupEntry : List ℕ → Stats → ℕ → LookupResult
-lookupEntry words stats hash = lookupAnswer (tableRows words) words stats hash
+abbrev pub lookup_entry : List ℕ → Stats → ℕ → LookupResult
+lookup_entry words stats hash = lookup_answer (table_rows words) words stats hash
 
-abbrev pub statsGiven : Stats → StatsResult
-statsGiven stats = record { refusal = 0; stats = stats }
+abbrev pub stats_given : Stats → StatsResult
+stats_given stats = record { refusal = 0; stats = stats }
 
-abbrev pub statsRefused : ℕ → Stats → StatsResult
-statsRefused r stats = record { refusal = r; stats = stats }
+abbrev pub stats_refused : ℕ → Stats → StatsResult
+stats_refused r stats = record { refusal = r; stats = stats }
 
 -- a table made of the words, age and counters that went in
-unfoldable pub tableAnswer : ℕ → List ℕ → Stats → Table → Over StatsResult
-tableAnswer zero words stats made = over (statsGiven made.stats) made.words
-tableAnswer (suc r) words stats made = over (statsRefused (suc r) stats) words
+unfoldable pub table_answer : ℕ → List ℕ → Stats → Table → Over StatsResult
+table_answer zero words stats made = over (stats_given made.stats) made.words
+table_answer (suc r) words stats made = over (stats_refused (suc r) stats) words
 
 -- 01, Entry and table: "A store replaces when ages differ or new depth >= stored depth; an insert is counted only then."
-abbrev pub storeEntry : List ℕ → Stats → ℕ → ℤ → ℤ → ℕ → Bound → Over StatsResult
-storeEntry words stats hash depth score mv bound = tableAnswer (tableRows words) words stats (store_of words stats hash depth score mv bound)
+abbrev pub store_entry : List ℕ → Stats → ℕ → ℤ → ℤ → ℕ → Bound → Over StatsResult
+store_entry words stats hash depth score mv bound = table_answer (table_rows words) words stats (store_of words stats hash depth score mv bound)
 
 -- 01, Entry and table: "Clear zeroes words, age, counters."
-abbrev pub clearEntry : List ℕ → Stats → Over StatsResult
-clearEntry words stats = tableAnswer (tableRows words) words stats (clearOf words)
+abbrev pub clear_entry : List ℕ → Stats → Over StatsResult
+clear_entry words stats = table_answer (table_rows words) words stats (clear_of words)
 
 -- 01, Entry and table: "Reset: age 254 or 255 becomes 0, else one more; counters zeroed."
-unfoldable pub resetAnswer : ℕ → Stats → StatsResult
-resetAnswer zero stats = statsGiven (resetOf stats)
-resetAnswer (suc r) stats = statsRefused (suc r) stats
+unfoldable pub reset_answer : ℕ → Stats → StatsResult
+reset_answer zero stats = stats_given (reset_of stats)
+reset_answer (suc r) stats = stats_refused (suc r) stats
 
-abbrev pub resetEntry : List ℕ → Stats → StatsResult
-resetEntry words stats = resetAnswer (tableRows words) stats
+abbrev pub reset_entry : List ℕ → Stats → StatsResult
+reset_entry words stats = reset_answer (table_rows words) stats
 
-abbrev pub zeroFloat : Float
-zeroFloat = fin false 0 (pos 0)
+abbrev pub zero_float : Float
+zero_float = fin false 0 (pos 0)
 
-abbrev pub occupancyGiven : Occupancy → OccupancyResult
-occupancyGiven o = record { refusal = 0; occupancy = o }
+abbrev pub occupancy_given : Occupancy → OccupancyResult
+occupancy_given o = record { refusal = 0; occupancy = o }
 
-abbrev pub occupancyRefused : ℕ → OccupancyResult
-occupancyRefused r = record { refusal = r; occupancy = record { exact = zeroFloat; lower = zeroFloat; upper = zeroFloat } }
+abbrev pub occupancy_refused : ℕ → OccupancyResult
+occupancy_refused r = record { refusal = r; occupancy = record { exact = zero_float; lower = zero_float; upper = zero_float } }
 
 -- 01, Entry and table: "Occupancy is a record of three percentages, the entries of each bound whose move isn't 0, times 100 over n."
-unfoldable pub occupancyAnswer : ℕ → List ℕ → OccupancyResult
-occupancyAnswer zero words = occupancyGiven (occupancyOf words)
-occupancyAnswer (suc r) words = occupancyRefused (suc r)
+unfoldable pub occupancy_answer : ℕ → List ℕ → OccupancyResult
+occupancy_answer zero words = occupancy_given (occupancy_of words)
+occupancy_answer (suc r) words = occupancy_refused (suc r)
 
-abbrev pub occupancyEntry : List ℕ → OccupancyResult
-occupancyEntry words = occupancyAnswer (tableRows words) words
+abbrev pub occupancy_entry : List ℕ → OccupancyResult
+occupancy_entry words = occupancy_answer (table_rows words) words
 
 -- 01, Entry and table: "They are exact in f64, since n is a power of two."
 abbrev pub OccupancyExact : List ℕ → OccupancyResult → Type 0

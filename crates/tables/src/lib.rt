@@ -1,7 +1,7 @@
 // The table's public entries. Each takes any words and numbers, and refuses a table of a wrong length with 8.
 ghost use Rattle.std.specs.Prelude.{◌≡◌};
 ghost use Rattle.state.specs.State.{over};
-ghost use Rattle.tables.specs.Tables.{lookupGiven, lookupRefused, lookupEntry, statsGiven, statsRefused, storeEntry, resetEntry, clearEntry, occupancyRefused, occupancyEntry, OccupancyExact};
+ghost use Rattle.tables.specs.Tables.{lookup_given, lookup_refused, lookup_entry, stats_given, stats_refused, store_entry, reset_entry, clear_entry, occupancy_refused, occupancy_entry, OccupancyExact};
 
 use percentages::occupancy::Occupancy;
 use table::{Found, Looked, Stats};
@@ -30,7 +30,7 @@ pub struct OccupancyResult {
 }
 
 fn lookup_refused(stats: Stats) -> LookupResult
-    ensures { result ≡ lookupRefused 8 stats }
+    ensures { result ≡ lookup_refused 8 stats }
 {
     LookupResult {
         refusal: 8,
@@ -40,7 +40,7 @@ fn lookup_refused(stats: Stats) -> LookupResult
 }
 
 fn lookup_given(l: Looked) -> LookupResult
-    ensures { result ≡ lookupGiven l }
+    ensures { result ≡ lookup_given l }
 {
     let found = l.found;
     let stats = l.stats;
@@ -52,7 +52,7 @@ fn lookup_given(l: Looked) -> LookupResult
 }
 
 fn stats_refused(stats: Stats) -> StatsResult
-    ensures { result ≡ statsRefused 8 stats }
+    ensures { result ≡ stats_refused 8 stats }
 {
     StatsResult {
         refusal: 8,
@@ -61,7 +61,7 @@ fn stats_refused(stats: Stats) -> StatsResult
 }
 
 fn stats_given(stats: Stats) -> StatsResult
-    ensures { result ≡ statsGiven stats }
+    ensures { result ≡ stats_given stats }
 {
     StatsResult {
         refusal: 0,
@@ -70,7 +70,7 @@ fn stats_given(stats: Stats) -> StatsResult
 }
 
 fn occupancy_refused() -> OccupancyResult
-    ensures { result ≡ occupancyRefused 8 }
+    ensures { result ≡ occupancy_refused 8 }
 {
     OccupancyResult {
         refusal: 8,
@@ -84,7 +84,7 @@ fn occupancy_refused() -> OccupancyResult
 
 // What stands at a hash, counted.
 pub fn lookup(words: &[u64], stats: Stats, hash: u64) -> LookupResult
-    ensures { result ≡ lookupEntry words.now stats hash }
+    ensures { result ≡ lookup_entry words.now stats hash }
 {
     if !refusals::table_right(words) {
         return lookup_refused(stats);
@@ -102,7 +102,7 @@ pub fn store(
     mv: u16,
     bound: Bound,
 ) -> StatsResult
-    ensures { over result words.new ≡ storeEntry words.old stats hash depth score mv bound }
+    ensures { over result words.new ≡ store_entry words.old stats hash depth score mv bound }
 {
     if !refusals::table_right(words) {
         return stats_refused(stats);
@@ -112,7 +112,7 @@ pub fn store(
 
 // The next age, and counters of 0.
 pub fn reset(words: &[u64], stats: Stats) -> StatsResult
-    ensures { result ≡ resetEntry words.now stats }
+    ensures { result ≡ reset_entry words.now stats }
 {
     if !refusals::table_right(words) {
         return stats_refused(stats);
@@ -122,7 +122,7 @@ pub fn reset(words: &[u64], stats: Stats) -> StatsResult
 
 // Words, age and counters of 0.
 pub fn clear(words: &mut [u64], stats: Stats) -> StatsResult
-    ensures { over result words.new ≡ clearEntry words.old stats }
+    ensures { over result words.new ≡ clear_entry words.old stats }
 {
     if !refusals::table_right(words) {
         return stats_refused(stats);
@@ -132,7 +132,7 @@ pub fn clear(words: &mut [u64], stats: Stats) -> StatsResult
 
 // The entries of each bound whose move is not 0, as percentages of the table.
 pub fn occupancy(words: &[u64]) -> OccupancyResult
-    ensures occupied { result ≡ occupancyEntry words.now }
+    ensures occupied { result ≡ occupancy_entry words.now }
     ensures exact { OccupancyExact words.now result }
 {
     if !refusals::table_right(words) {

@@ -6,12 +6,12 @@ use native.Mathlib.Omega.{arith}
 use lib.ListN.{length, take, length-append}
 use lib.Seq.{take_at, take-length, length-take-le}
 use Rattle.results.specs.declared.RootResult.{RootResult}
-use Rattle.text.specs.Text.{answerLine, refusedLine, lineBy, line_of, Put}
+use Rattle.text.specs.Text.{answer_line, refused_line, line_by, line_of, Put}
 
 -- the part from `at` on, after a copy of the word to its start
-pub put-part : (before word rest part post : List ℕ) (at n : ℕ) → at ≤ length before → n ≡ length word → part ≡ take (length word) word ++ rest
+pub put_part : (before word rest part post : List ℕ) (at n : ℕ) → at ≤ length before → n ≡ length word → part ≡ take (length word) word ++ rest
     → Put before at word (take at before ++ (part ++ post)) (at + n)
-put-part before word rest part post at n l e p =
+put_part before word rest part post at n l e p =
     record {
       place = omega arith;
       bytes =
@@ -34,14 +34,14 @@ pub put_same : {a b v w : List ℕ} {at end : ℕ} → v ≡ w → Put a at v b 
 put_same {a} {b} {v} {w} {at} {end} e p = rw e at p
 
 -- which of the two lines it is
-pub line_refused : (r : RootResult) → (r.refusal ≡ 0 → ⊥) → line_of r ≡ refusedLine r.refusal
-unfolding lineBy
+pub line_refused : (r : RootResult) → (r.refusal ≡ 0 → ⊥) → line_of r ≡ refused_line r.refusal
+unfolding line_by
 line_refused r = by_number r.refusal
   where
-    by_number : (k : ℕ) → (k ≡ 0 → ⊥) → lineBy k r ≡ refusedLine k
+    by_number : (k : ℕ) → (k ≡ 0 → ⊥) → line_by k r ≡ refused_line k
     by_number zero h = absurd (h refl)
     by_number (suc k) h = refl
 
-pub line-answered : (r : RootResult) → r.refusal ≡ 0 → line_of r ≡ answerLine r
-unfolding lineBy
-line-answered r e = ap (λ (k : ℕ). lineBy k r) e
+pub line_answered : (r : RootResult) → r.refusal ≡ 0 → line_of r ≡ answer_line r
+unfolding line_by
+line_answered r e = ap (λ (k : ℕ). line_by k r) e

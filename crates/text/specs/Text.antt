@@ -10,13 +10,13 @@ ascii none = []
 ascii (c then s) = code c ∷ ascii s
 
 -- the last k digits of n, and no zero in front of another digit
-unfoldable pub decimalTo : ℕ → ℕ → List ℕ
-decimalTo zero n = []
-decimalTo (suc k) n = cond (ltb n 10) ((48 + n) ∷ []) (decimalTo k (n / 10) ++ ((48 + n % 10) ∷ []))
+unfoldable pub decimal_to : ℕ → ℕ → List ℕ
+decimal_to zero n = []
+decimal_to (suc k) n = cond (ltb n 10) ((48 + n) ∷ []) (decimal_to k (n / 10) ++ ((48 + n % 10) ∷ []))
 
 -- a number of 64 bits has at most 20 digits
 abbrev pub decimal : ℕ → List ℕ
-decimal n = decimalTo 20 n
+decimal n = decimal_to 20 n
 
 -- a minus sign before a number below 0
 unfoldable pub signed : ℤ → List ℕ
@@ -28,27 +28,27 @@ mark_of true = 1
 mark_of false = 0
 
 -- what was found
-unfoldable pub foundText : RootResult → List ℕ
-foundText r = (ascii "score " ++ signed r.score) ++ (ascii " move " ++ decimal r.mv)
+unfoldable pub found_text : RootResult → List ℕ
+found_text r = (ascii "score " ++ signed r.score) ++ (ascii " move " ++ decimal r.mv)
 
 -- how it was searched
-unfoldable pub spentText : RootResult → List ℕ
-spentText r = ((ascii " depth " ++ decimal r.depth) ++ (ascii " nodes " ++ decimal r.nodes)) ++ (ascii " stopped " ++ decimal (mark_of r.stopped))
+unfoldable pub spent_text : RootResult → List ℕ
+spent_text r = ((ascii " depth " ++ decimal r.depth) ++ (ascii " nodes " ++ decimal r.nodes)) ++ (ascii " stopped " ++ decimal (mark_of r.stopped))
 
 -- 01, Entries on both sides: "it prints the one line `score 0 move 32 depth 30 nodes 60 stopped 0`"
-unfoldable pub answerLine : RootResult → List ℕ
-answerLine r = (foundText r ++ spentText r) ++ ascii "\n"
+unfoldable pub answer_line : RootResult → List ℕ
+answer_line r = (found_text r ++ spent_text r) ++ ascii "\n"
 
 -- 01, Entries on both sides: "A refusal prints `refused` and the number."
-unfoldable pub refusedLine : ℕ → List ℕ
-refusedLine refusal = (ascii "refused " ++ decimal refusal) ++ ascii "\n"
+unfoldable pub refused_line : ℕ → List ℕ
+refused_line refusal = (ascii "refused " ++ decimal refusal) ++ ascii "\n"
 
-unfoldable pub lineBy : ℕ → RootResult → List ℕ
-lineBy zero r = answerLine r
-lineBy (suc k) r = refusedLine (suc k)
+unfoldable pub line_by : ℕ → RootResult → List ℕ
+line_by zero r = answer_line r
+line_by (suc k) r = refused_line (suc k)
 
 abbrev pub line_of : RootResult → List ℕ
-line_of r = lineBy r.refusal r
+line_of r = line_by r.refusal r
 
 -- `text` stands in `after` behind the first `at` bytes of `before`; `end` is the place behind it
 pub record Put (before : List ℕ) (at : ℕ) (text after : List ℕ) (end : ℕ) : Type 0 where

@@ -1,7 +1,7 @@
 // The text of the line: each function puts bytes into a buffer from a place on, and answers the place behind them.
 ghost use Rattle.std.specs.Prelude.{◌≡◌, ◌++◌, ◌+◌, ◌≤◌, length, take};
 ghost use Rattle.io.specs.Counts.{IsPrefixLen};
-ghost use Rattle.text.specs.Text.{decimal, signed, mark_of, foundText, spentText, answerLine, refusedLine, line_of, Put};
+ghost use Rattle.text.specs.Text.{decimal, signed, mark_of, found_text, spent_text, answer_line, refused_line, line_of, Put};
 
 use results::RootResult;
 
@@ -47,7 +47,7 @@ fn put_score(out: &mut [u8], at: usize, score: i16) -> usize
 
 fn put_refused(out: &mut [u8], refusal: u8) -> usize
     requires { 160 ≤ length out.old }
-    ensures put { Put out.old 0 (refusedLine refusal) out.new result }
+    ensures put { Put out.old 0 (refused_line refusal) out.new result }
     ensures upper_bound { result ≤ 160 }
 {
     let end = put_field(out, 0, b"refused ", refusal as u64);
@@ -63,7 +63,7 @@ fn mark(stopped: bool) -> u64
 // What was found: score and move.
 fn put_found(out: &mut [u8], r: RootResult) -> usize
     requires { 53 ≤ length out.old }
-    ensures put { Put out.old 0 (foundText r) out.new result }
+    ensures put { Put out.old 0 (found_text r) out.new result }
     ensures upper_bound { result ≤ 53 }
 {
     let a = put(out, 0, b"score ");
@@ -74,7 +74,7 @@ fn put_found(out: &mut [u8], r: RootResult) -> usize
 // How it was searched: depth, nodes and stop mark.
 fn put_spent(out: &mut [u8], at: usize, r: RootResult) -> usize
     requires { at + 83 ≤ length out.old }
-    ensures put { Put out.old at (spentText r) out.new result }
+    ensures put { Put out.old at (spent_text r) out.new result }
     ensures upper_bound { result ≤ at + 83 }
 {
     let a = put_field(out, at, b" depth ", r.depth as u64);
@@ -84,7 +84,7 @@ fn put_spent(out: &mut [u8], at: usize, r: RootResult) -> usize
 
 fn put_answer(out: &mut [u8], r: RootResult) -> usize
     requires { 160 ≤ length out.old }
-    ensures put { Put out.old 0 (answerLine r) out.new result }
+    ensures put { Put out.old 0 (answer_line r) out.new result }
     ensures upper_bound { result ≤ 160 }
 {
     let a = put_found(out, r);

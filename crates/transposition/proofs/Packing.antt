@@ -8,7 +8,7 @@ use mir.Syntax.{w8, w16}
 use mir.Val.{SFits}
 use mir.Facts.{to_z-of_z, Fits-of_z, sfits_to_z}
 use Rattle.score.specs.Bits.{bits_of}
-use Rattle.transposition.specs.Word.{field, boundByte, boundOf, dataWord, entry_of}
+use Rattle.transposition.specs.Word.{field, bound_byte, bound_of, data_word, entry_of}
 use Rattle.transposition.specs.declared.Bound.{Bound}
 use Rattle.transposition.specs.declared.Bound.TheVariants.{Exact, Lower, Upper}
 use Rattle.transposition.specs.declared.Entry.{Entry}
@@ -28,16 +28,16 @@ pub record Valid (e : Entry) : Type 0 where
   pub score : SFits w16 e.score
   pub mv : e.mv < 2 ^ 16
 
-pub bound-back : (b : Bound) → boundOf (boundByte b) ≡ b
-unfolding boundOf
-bound-back Exact = refl
-bound-back Lower = refl
-bound-back Upper = refl
+pub bound_back : (b : Bound) → bound_of (bound_byte b) ≡ b
+unfolding bound_of
+bound_back Exact = refl
+bound_back Lower = refl
+bound_back Upper = refl
 
-bound-fits : (b : Bound) → boundByte b < 2 ^ 8
-bound-fits Exact = omega arith
-bound-fits Lower = omega arith
-bound-fits Upper = omega arith
+bound_fits : (b : Bound) → bound_byte b < 2 ^ 8
+bound_fits Exact = omega arith
+bound_fits Lower = omega arith
+bound_fits Upper = omega arith
 
 module _ (a b d s m : ℕ) (ha : a < 2 ^ 8) (hb : b < 2 ^ 8) (hd : d < 2 ^ 8) (hs : s < 2 ^ 16) (hm : m < 2 ^ 16) where
   abbrev sum : ℕ
@@ -56,16 +56,16 @@ module _ (a b d s m : ℕ) (ha : a < 2 ^ 8) (hb : b < 2 ^ 8) (hd : d < 2 ^ 8) (h
       at k w hi x lo q hx hl = ap (field k w) q ∙ packed k w hi hx hl
 
 -- reading back what was packed gives the entry
-pub read_back : (e : Entry) → Valid e → entry_of (dataWord e) ≡ e
-unfolding entry_of dataWord
+pub read_back : (e : Entry) → Valid e → entry_of (data_word e) ≡ e
+unfolding entry_of data_word
 read_back e v =
-    let f = five e.age (boundByte e.bound) (bits_of w8 e.depth) (bits_of w16 e.score) e.mv v.age (bound-fits e.bound) (Fits-of_z v.depth).fits (Fits-of_z v.score).fits v.mv in
-    simp (f.0, f.1, f.2, f.3, f.4, bound-back e.bound, to_z-of_z v.depth, to_z-of_z v.score)
+    let f = five e.age (bound_byte e.bound) (bits_of w8 e.depth) (bits_of w16 e.score) e.mv v.age (bound_fits e.bound) (Fits-of_z v.depth).fits (Fits-of_z v.score).fits v.mv in
+    simp (f.0, f.1, f.2, f.3, f.4, bound_back e.bound, to_z-of_z v.depth, to_z-of_z v.score)
 
 -- what a word holds fits, whatever the word is
-pub entry-valid : (n : ℕ) → Valid (entry_of n)
+pub entry_valid : (n : ℕ) → Valid (entry_of n)
 unfolding entry_of
-entry-valid n =
+entry_valid n =
     record {
       age = field_fits 8 8 n;
       depth = sfits_to_z (record { fits = field_fits 24 8 n });

@@ -22,8 +22,8 @@ differ_back x y h k =
     (bit (λ (y : ℕ). (differ (differ 1 y) y ≡ 1) × (differ 1 y < 2)) (refl, omega arith) (refl, omega arith) y k) x h
 
 -- and at all of them
-pub xor-back : (a b : ℕ) → bit_xor (bit_xor a b) b ≡ a
-xor-back = bin_ind (λ (a : ℕ). (b : ℕ) → bit_xor (bit_xor a b) b ≡ a) (λ b. ap (λ (x : ℕ). bit_xor x b) (xor_zero_l b) ∙ xor_self b) step
+pub xor_back : (a b : ℕ) → bit_xor (bit_xor a b) b ≡ a
+xor_back = bin_ind (λ (a : ℕ). (b : ℕ) → bit_xor (bit_xor a b) b ≡ a) (λ b. ap (λ (x : ℕ). bit_xor x b) (xor_zero_l b) ∙ xor_self b) step
   where
     step : (a : ℕ) → ((b : ℕ) → bit_xor (bit_xor (a / 2) b) b ≡ a / 2) → (b : ℕ) → bit_xor (bit_xor a b) b ≡ a
     step a ih b =

@@ -1,6 +1,6 @@
 // The entry of the transposition table and its two words (002): a data word that packs the entry, and a hash word.
 ghost use Rattle.std.specs.Prelude.{◌≡◌};
-ghost use Rattle.transposition.specs.Word.{boundByte, boundOf, dataWord, entry_of, hashWord};
+ghost use Rattle.transposition.specs.Word.{bound_byte, bound_of, data_word, entry_of, hash_word};
 
 #[derive(Drop)]
 pub enum Bound {
@@ -20,7 +20,7 @@ pub struct Entry {
 
 // The byte that a data word has for a bound.
 pub fn bound_byte(bound: Bound) -> u8
-    ensures { result ≡ boundByte bound }
+    ensures { result ≡ bound_byte bound }
 {
     match bound {
         Bound::Exact => 0,
@@ -31,7 +31,7 @@ pub fn bound_byte(bound: Bound) -> u8
 
 // The bound that a byte reads as: any byte has one, since a lent word may hold any.
 pub fn bound_of(byte: u8) -> Bound
-    ensures { result ≡ boundOf byte }
+    ensures { result ≡ bound_of byte }
 {
     if byte == 1 {
         Bound::Lower
@@ -44,7 +44,7 @@ pub fn bound_of(byte: u8) -> Bound
 
 // The entry in one word, each field at its place.
 pub fn data_word(e: Entry) -> u64
-    ensures { result ≡ dataWord e }
+    ensures { result ≡ data_word e }
 {
     let bound = e.bound;
     let b = bound_byte(bound);
@@ -75,7 +75,7 @@ pub fn entry_of(word: u64) -> Entry
 
 // The word beside the data word: a data word that another write changed no longer fits it.
 pub fn hash_word(hash: u64, word: u64) -> u64
-    ensures { result ≡ hashWord hash word }
+    ensures { result ≡ hash_word hash word }
 {
     hash ^ word
 }

@@ -5,13 +5,13 @@ use borrow.Author.Tests.{eqb-false, not-true}
 use Rattle.score.proofs.Order.{off}
 use Rattle.tree.specs.Pick.{pick, all_below}
 use Rattle.record.specs.Bytes.{le}
-use Rattle.record.specs.Node.{recordAt, recordOf, first_of, count_of, flags_of, evalOf, move_of}
-use Rattle.tree.specs.Blocks.{lengthRight, blocksRight, nodesOf, Blocked}
-use Rattle.tree.specs.Layout.{start_of, layoutRight, Laid}
-use Rattle.tree.specs.Fields.{evalRight, moveRight, differ, apart, siblingsRight, fieldsOk, unusedRight, fieldsRight}
-use Rattle.tree.specs.Level.{edge, levelOf, levelsRight}
-use Rattle.tree.specs.Refusal.{treeRefusal, handedPart}
-use Rattle.tree.proofs.Every.{two, four, every-at}
+use Rattle.record.specs.Node.{record_at, record_of, first_of, count_of, flags_of, eval_of, move_of}
+use Rattle.tree.specs.Blocks.{length_right, blocks_right, nodes_of, Blocked}
+use Rattle.tree.specs.Layout.{start_of, layout_right, Laid}
+use Rattle.tree.specs.Fields.{eval_right_lem, move_right, differ, apart, siblings_right, fields_ok, unused_right, fields_right}
+use Rattle.tree.specs.Level.{edge, level_of, levels_right}
+use Rattle.tree.specs.Refusal.{tree_refusal, handed_part}
+use Rattle.tree.proofs.Every.{two, four, every_at}
 use Rattle.record.proofs.Places as places
 use Rattle.tree.proofs.Blocked as blocked
 use Rattle.tree.proofs.Laid as laid
@@ -24,11 +24,11 @@ use Rattle.tree.proofs.Parents.{ChildOf, ParentBelow}
 
 -- every row holds
 pub record Accepted (inf : ℤ) (maxPly : ℕ) (t : List ℕ) : Type 0 where
-  pub length-right : lengthRight t ≡ true
-  pub blocks-right : blocksRight t ≡ true
-  pub layout-right : layoutRight t ≡ true
-  pub fields-right : fieldsRight inf maxPly t ≡ true
-  pub levels-right : levelsRight t ≡ true
+  pub length_right_lem : length_right t ≡ true
+  pub blocks_right_lem : blocks_right t ≡ true
+  pub layout_right_lem : layout_right t ≡ true
+  pub fields_right_lem : fields_right inf maxPly t ≡ true
+  pub levels_right_lem : levels_right t ≡ true
 
 abbrev first : Bool → Bool → Bool → Bool → Bool → ℕ
 first a b c d e = pick (not a) 1 (pick (not b) 2 (pick (not c) 3 (pick (not d) 4 (pick (not e) 5 0))))
@@ -50,174 +50,174 @@ most true true false d e = omega arith
 most true false c d e = omega arith
 most false b c d e = omega arith
 
-pub refusal-most : (inf : ℤ) (maxPly : ℕ) (t : List ℕ) → treeRefusal inf maxPly t ≤ 5
-unfolding treeRefusal
-refusal-most inf maxPly t = most (lengthRight t) (blocksRight t) (layoutRight t) (fieldsRight inf maxPly t) (levelsRight t)
+pub refusal_most : (inf : ℤ) (maxPly : ℕ) (t : List ℕ) → tree_refusal inf maxPly t ≤ 5
+unfolding tree_refusal
+refusal_most inf maxPly t = most (length_right t) (blocks_right t) (layout_right t) (fields_right inf maxPly t) (levels_right t)
 
-pub accepted : (inf : ℤ) (maxPly : ℕ) (t : List ℕ) → treeRefusal inf maxPly t ≡ 0 → Accepted inf maxPly t
-unfolding treeRefusal
+pub accepted : (inf : ℤ) (maxPly : ℕ) (t : List ℕ) → tree_refusal inf maxPly t ≡ 0 → Accepted inf maxPly t
+unfolding tree_refusal
 accepted inf maxPly t h =
-    let r = none (lengthRight t) (blocksRight t) (layoutRight t) (fieldsRight inf maxPly t) (levelsRight t) h in
-    record { length-right = r.0; blocks-right = r.1; layout-right = r.2; fields-right = r.3; levels-right = r.4 }
+    let r = none (length_right t) (blocks_right t) (layout_right t) (fields_right inf maxPly t) (levels_right t) h in
+    record { length_right_lem = r.0; blocks_right_lem = r.1; layout_right_lem = r.2; fields_right_lem = r.3; levels_right_lem = r.4 }
 
 -- and back
-pub accepted-back : (inf : ℤ) (maxPly : ℕ) (t : List ℕ) → Accepted inf maxPly t → treeRefusal inf maxPly t ≡ 0
-unfolding treeRefusal
-accepted-back inf maxPly t a = rw (a.length-right, a.blocks-right, a.layout-right, a.fields-right, a.levels-right)
+pub accepted_back : (inf : ℤ) (maxPly : ℕ) (t : List ℕ) → Accepted inf maxPly t → tree_refusal inf maxPly t ≡ 0
+unfolding tree_refusal
+accepted_back inf maxPly t a = rw (a.length_right_lem, a.blocks_right_lem, a.layout_right_lem, a.fields_right_lem, a.levels_right_lem)
 
-module _ (inf : ℤ) (maxPly : ℕ) (t : List ℕ) (ok : treeRefusal inf maxPly t ≡ 0) where
-  pub is-blocked : Blocked t
-  is-blocked = let a = accepted inf maxPly t ok in record { length-right = a.length-right; blocks-right = a.blocks-right }
+module _ (inf : ℤ) (maxPly : ℕ) (t : List ℕ) (ok : tree_refusal inf maxPly t ≡ 0) where
+  pub is_blocked : Blocked t
+  is_blocked = let a = accepted inf maxPly t ok in record { length_right_lem = a.length_right_lem; blocks_right_lem = a.blocks_right_lem }
 
-  pub is-laid : Laid t
-  is-laid = record { blocked = is-blocked; layout-right = (accepted inf maxPly t ok).layout-right }
+  pub is_laid : Laid t
+  is_laid = record { blocked = is_blocked; layout_right_lem = (accepted inf maxPly t ok).layout_right_lem }
 
   -- the nodes, and their records
 
-  pub nodes-least : 1 ≤ nodesOf t
-  nodes-least = blocked.nodes-least t is-blocked
+  pub nodes_least : 1 ≤ nodes_of t
+  nodes_least = blocked.nodes_least t is_blocked
 
-  pub nodes-most : nodesOf t ≤ 3968
-  nodes-most = blocked.nodes-most t is-blocked
+  pub nodes_most : nodes_of t ≤ 3968
+  nodes_most = blocked.nodes_most t is_blocked
 
-  pub record-in : (k : ℕ) → k < nodesOf t → recordAt k + 16 ≤ length t
-  record-in k h = blocked.record-in t is-blocked k h
+  pub record_in : (k : ℕ) → k < nodes_of t → record_at k + 16 ≤ length t
+  record_in k h = blocked.record_in t is_blocked k h
 
   -- a node's part has its 16 bytes
-  pub record-length : (k : ℕ) → k < nodesOf t → length (recordOf t k) ≡ 16
-  record-length k h = places.record-length t k (recordOf t k) (record-in k h) refl
+  pub record_length : (k : ℕ) → k < nodes_of t → length (record_of t k) ≡ 16
+  record_length k h = places.record_length t k (record_of t k) (record_in k h) refl
 
-  pub record-byte : (k i : ℕ) → k < nodesOf t → i < 16 → get_or (recordOf t k) i 0 ≡ get_or t (recordAt k + i) 0
-  record-byte k i h l = places.record-byte t k (recordOf t k) (record-in k h) refl i l
+  pub record_byte : (k i : ℕ) → k < nodes_of t → i < 16 → get_or (record_of t k) i 0 ≡ get_or t (record_at k + i) 0
+  record_byte k i h l = places.record_byte t k (record_of t k) (record_in k h) refl i l
 
-  pub record-le : (k at n : ℕ) → k < nodesOf t → at + n ≤ 16 → le (recordOf t k) at n ≡ le t (recordAt k + at) n
-  record-le k at n h l = places.record-le t k (recordOf t k) (record-in k h) refl at n l
+  pub record_le : (k at n : ℕ) → k < nodes_of t → at + n ≤ 16 → le (record_of t k) at n ≡ le t (record_at k + at) n
+  record_le k at n h l = places.record_le t k (record_of t k) (record_in k h) refl at n l
 
   -- the children of a node: consecutive nodes, above it and in the tree
 
-  pub count_most : (k : ℕ) → k < nodesOf t → count_of t k ≤ 63
-  count_most k h = laid.count_most t k (laid.children-right t is-laid k h)
+  pub count_most : (k : ℕ) → k < nodes_of t → count_of t k ≤ 63
+  count_most k h = laid.count_most t k (laid.children_right_lem t is_laid k h)
 
-  pub start-above : (k : ℕ) → k < nodesOf t → k < start_of t k
-  start-above k h = laid.start-above t k (laid.children-right t is-laid k h)
+  pub start_above : (k : ℕ) → k < nodes_of t → k < start_of t k
+  start_above k h = laid.start_above t k (laid.children_right_lem t is_laid k h)
 
-  pub first-none : (k : ℕ) → k < nodesOf t → count_of t k ≡ 0 → first_of t k ≡ 0
-  first-none k h = laid.first-none t k (laid.children-right t is-laid k h)
+  pub first_none : (k : ℕ) → k < nodes_of t → count_of t k ≡ 0 → first_of t k ≡ 0
+  first_none k h = laid.first_none t k (laid.children_right_lem t is_laid k h)
 
-  module _ (k : ℕ) (h : k < nodesOf t) (some : 0 < count_of t k) where
-    pub first-start : first_of t k ≡ start_of t k
-    first-start = laid.first-start t k (laid.children-right t is-laid k h) (λ e. omega arith)
+  module _ (k : ℕ) (h : k < nodes_of t) (some : 0 < count_of t k) where
+    pub first_start : first_of t k ≡ start_of t k
+    first_start = laid.first_start t k (laid.children_right_lem t is_laid k h) (λ e. omega arith)
 
     pub first_above : k < first_of t k
-    first_above = omega (arith, first-start, start-above k h)
+    first_above = omega (arith, first_start, start_above k h)
 
-    pub children-in : first_of t k + count_of t k ≤ nodesOf t
-    children-in = omega (arith, first-start, laid.kids-in t is-laid k h)
+    pub children_in : first_of t k + count_of t k ≤ nodes_of t
+    children_in = omega (arith, first_start, laid.kids_in t is_laid k h)
 
   -- child i of a node is a child of it
-  pub child-of : (k i : ℕ) → k < nodesOf t → i < count_of t k → ChildOf t k (first_of t k + i)
-  child-of k i h l =
-      let e = first-start k h (omega arith) in
+  pub child_of : (k i : ℕ) → k < nodes_of t → i < count_of t k → ChildOf t k (first_of t k + i)
+  child_of k i h l =
+      let e = first_start k h (omega arith) in
       record { low = omega (arith, e); high = omega (arith, e) }
 
   -- it lies above that node, and in the tree
 
-  pub child-above : (k i : ℕ) → k < nodesOf t → i < count_of t k → k < first_of t k + i
-  child-above k i h l = omega (arith, first_above k h (omega arith))
+  pub child_above : (k i : ℕ) → k < nodes_of t → i < count_of t k → k < first_of t k + i
+  child_above k i h l = omega (arith, first_above k h (omega arith))
 
-  pub child-in : (k i : ℕ) → k < nodesOf t → i < count_of t k → first_of t k + i < nodesOf t
-  child-in k i h l = laid.kid_in t is-laid k i h l
+  pub child_in : (k i : ℕ) → k < nodes_of t → i < count_of t k → first_of t k + i < nodes_of t
+  child_in k i h l = laid.kid_in t is_laid k i h l
 
   -- every node but the root is a child of exactly one earlier node
 
-  pub parent : (c : ℕ) → 0 < c → c < nodesOf t → ParentBelow t c c
-  parent c p h = parents.parent t is-laid c p h
+  pub parent : (c : ℕ) → 0 < c → c < nodes_of t → ParentBelow t c c
+  parent c p h = parents.parent t is_laid c p h
 
-  pub parent-one : (j k c : ℕ) → ChildOf t j c → ChildOf t k c → j ≡ k
-  parent-one j k c p q = parents.parent-one t j k c p q
+  pub parent_one : (j k c : ℕ) → ChildOf t j c → ChildOf t k c → j ≡ k
+  parent_one j k c p q = parents.parent_one t j k c p q
 
   -- levels
 
-  pub level-root : levelOf t 0 ≡ 0
-  level-root = levels.level-root t 100
+  pub level_root : level_of t 0 ≡ 0
+  level_root = levels.level_root t 100
 
-  pub level-most : (k : ℕ) → levelOf t k ≤ 100
-  level-most k = levels.level-most t 100 k
+  pub level_most : (k : ℕ) → level_of t k ≤ 100
+  level_most k = levels.level_most t 100 k
 
   -- level 101 would begin behind the last node
-  deep : edge t 101 ≡ nodesOf t
-  unfolding levelsRight
-  deep = eqb-true (edge t 101) (nodesOf t) (accepted inf maxPly t ok).levels-right
+  deep : edge t 101 ≡ nodes_of t
+  unfolding levels_right
+  deep = eqb-true (edge t 101) (nodes_of t) (accepted inf maxPly t ok).levels_right_lem
 
-  pub level-child : (k c : ℕ) → ChildOf t k c → c < nodesOf t → levelOf t c ≡ levelOf t k + 1
-  level-child k c p h = levels.level-child t k c p (omega (arith, deep))
+  pub level_child : (k c : ℕ) → ChildOf t k c → c < nodes_of t → level_of t c ≡ level_of t k + 1
+  level_child k c p h = levels.level_child t k c p (omega (arith, deep))
 
-  pub level-kid : (k i : ℕ) → k < nodesOf t → i < count_of t k → levelOf t (first_of t k + i) ≡ levelOf t k + 1
-  level-kid k i h l = level-child k (first_of t k + i) (child-of k i h l) (child-in k i h l)
+  pub level_kid : (k i : ℕ) → k < nodes_of t → i < count_of t k → level_of t (first_of t k + i) ≡ level_of t k + 1
+  level_kid k i h l = level_child k (first_of t k + i) (child_of k i h l) (child_in k i h l)
 
   -- a node's level is the number of moves from the root to it
-  pub level-moves : (n c : ℕ) → Below t n c → c < nodesOf t → levelOf t c ≡ n
-  level-moves n c b h = depth.moves-level t is-laid n c deep b h
+  pub level_moves : (n c : ℕ) → Below t n c → c < nodes_of t → level_of t c ≡ n
+  level_moves n c b h = depth.moves_level t is_laid n c deep b h
 
   -- fields
 
-  fields-ok : (k : ℕ) → k < nodesOf t → fieldsOk inf maxPly t k ≡ true
-  unfolding fieldsRight
-  fields-ok k h = every-at (fieldsOk inf maxPly t) (nodesOf t) k (two (all_below (fieldsOk inf maxPly t) (nodesOf t)) (unusedRight t) (accepted inf maxPly t ok).fields-right).0 h
+  fields-ok : (k : ℕ) → k < nodes_of t → fields_ok inf maxPly t k ≡ true
+  unfolding fields_right
+  fields-ok k h = every_at (fields_ok inf maxPly t) (nodes_of t) k (two (all_below (fields_ok inf maxPly t) (nodes_of t)) (unused_right t) (accepted inf maxPly t ok).fields_right_lem).0 h
 
-  parts : (k : ℕ) → k < nodesOf t → (ltb (flags_of t k) 32 ≡ true) × (evalRight inf maxPly (evalOf t k) ≡ true) × (moveRight t k ≡ true) × (siblingsRight t k ≡ true)
-  unfolding fieldsOk
-  parts k h = four (ltb (flags_of t k) 32) (evalRight inf maxPly (evalOf t k)) (moveRight t k) (siblingsRight t k) (fields-ok k h)
+  parts : (k : ℕ) → k < nodes_of t → (ltb (flags_of t k) 32 ≡ true) × (eval_right_lem inf maxPly (eval_of t k) ≡ true) × (move_right t k ≡ true) × (siblings_right t k ≡ true)
+  unfolding fields_ok
+  parts k h = four (ltb (flags_of t k) 32) (eval_right_lem inf maxPly (eval_of t k)) (move_right t k) (siblings_right t k) (fields-ok k h)
 
-  pub flags-below : (k : ℕ) → k < nodesOf t → flags_of t k < 32
-  flags-below k h = ltb-true (flags_of t k) 32 (parts k h).0
+  pub flags_below : (k : ℕ) → k < nodes_of t → flags_of t k < 32
+  flags_below k h = ltb-true (flags_of t k) 32 (parts k h).0
 
-  pub eval_right : (k : ℕ) → k < nodesOf t → evalRight inf maxPly (evalOf t k) ≡ true
-  eval_right k h = (parts k h).1
+  pub eval_right_lem : (k : ℕ) → k < nodes_of t → eval_right_lem inf maxPly (eval_of t k) ≡ true
+  eval_right_lem k h = (parts k h).1
 
-  pub eval-over : (k : ℕ) → k < nodesOf t → lt_z (neg_ℤ (inf -ℤ pos maxPly)) (evalOf t k) ≡ true
-  unfolding evalRight
-  eval-over k h = (two (lt_z (neg_ℤ (inf -ℤ pos maxPly)) (evalOf t k)) (lt_z (evalOf t k) (inf -ℤ pos maxPly)) (eval_right k h)).0
+  pub eval_over : (k : ℕ) → k < nodes_of t → lt_z (neg_ℤ (inf -ℤ pos maxPly)) (eval_of t k) ≡ true
+  unfolding eval_right_lem
+  eval_over k h = (two (lt_z (neg_ℤ (inf -ℤ pos maxPly)) (eval_of t k)) (lt_z (eval_of t k) (inf -ℤ pos maxPly)) (eval_right_lem k h)).0
 
-  pub eval-under : (k : ℕ) → k < nodesOf t → lt_z (evalOf t k) (inf -ℤ pos maxPly) ≡ true
-  unfolding evalRight
-  eval-under k h = (two (lt_z (neg_ℤ (inf -ℤ pos maxPly)) (evalOf t k)) (lt_z (evalOf t k) (inf -ℤ pos maxPly)) (eval_right k h)).1
+  pub eval_under : (k : ℕ) → k < nodes_of t → lt_z (eval_of t k) (inf -ℤ pos maxPly) ≡ true
+  unfolding eval_right_lem
+  eval_under k h = (two (lt_z (neg_ℤ (inf -ℤ pos maxPly)) (eval_of t k)) (lt_z (eval_of t k) (inf -ℤ pos maxPly)) (eval_right_lem k h)).1
 
-  pub move-root : move_of t 0 ≡ 0
-  unfolding moveRight
-  move-root = eqb-true (move_of t 0) 0 (parts 0 (omega (arith, nodes-least))).2
+  pub move_root : move_of t 0 ≡ 0
+  unfolding move_right
+  move_root = eqb-true (move_of t 0) 0 (parts 0 (omega (arith, nodes_least))).2
 
-  pub move_some : (k : ℕ) → 0 < k → k < nodesOf t → move_of t k ≡ 0 → ⊥
-  unfolding moveRight
+  pub move_some : (k : ℕ) → 0 < k → k < nodes_of t → move_of t k ≡ 0 → ⊥
+  unfolding move_right
   move_some k p h = eqb-false (move_of t k) 0 (not-true _ (rw (ne_eqb k 0 (λ e. omega arith)) at (parts k h).2))
 
   -- siblings' moves differ
-  pub siblings-differ : (k i j : ℕ) → k < nodesOf t → i < j → j < count_of t k → move_of t (first_of t k + i) ≡ move_of t (first_of t k + j) → ⊥
-  unfolding siblingsRight apart differ
-  siblings-differ k i j h l m =
-      let p = every-at (apart t (first_of t k)) (count_of t k) j (parts k h).3 m in
-      let q = every-at (differ t (first_of t k) j) j i p l in
+  pub siblings_differ : (k i j : ℕ) → k < nodes_of t → i < j → j < count_of t k → move_of t (first_of t k + i) ≡ move_of t (first_of t k + j) → ⊥
+  unfolding siblings_right apart differ
+  siblings_differ k i j h l m =
+      let p = every_at (apart t (first_of t k)) (count_of t k) j (parts k h).3 m in
+      let q = every_at (differ t (first_of t k) j) j i p l in
       eqb-false (move_of t (first_of t k + i)) (move_of t (first_of t k + j)) (not-true _ q)
 
 -- the part that an accessor hands back: the node's record where nothing is refused, else the empty part
 
-pub handed-record : (refusal : ℕ) (t : List ℕ) (k : ℕ) → refusal ≡ 0 → handedPart refusal t k ≡ recordOf t k
-unfolding handedPart
-handed-record refusal t k e = rw (eq-eqb refusal 0 e)
+pub handed_record : (refusal : ℕ) (t : List ℕ) (k : ℕ) → refusal ≡ 0 → handed_part refusal t k ≡ record_of t k
+unfolding handed_part
+handed_record refusal t k e = rw (eq-eqb refusal 0 e)
 
-pub handed-none : (refusal : ℕ) (t : List ℕ) (k : ℕ) → (refusal ≡ 0 → ⊥) → handedPart refusal t k ≡ []
-unfolding handedPart
-handed-none refusal t k n = rw (ne_eqb refusal 0 n)
+pub handed_none : (refusal : ℕ) (t : List ℕ) (k : ℕ) → (refusal ≡ 0 → ⊥) → handed_part refusal t k ≡ []
+unfolding handed_part
+handed_none refusal t k n = rw (ne_eqb refusal 0 n)
 
 -- an evaluation is read from 16 bits, whatever the tree
-pub eval-mag : (t : List ℕ) (k : ℕ) → mag (evalOf t k) < 32768
-unfolding evalOf
-eval-mag t k = within.read-mag (le t (recordAt k + 4) 2)
+pub eval_mag : (t : List ℕ) (k : ℕ) → mag (eval_of t k) < 32768
+unfolding eval_of
+eval_mag t k = within.read_mag (le t (record_at k + 4) 2)
 
 -- evaluations by their images (`off`), at an INF of v
-module _ (v maxPly : ℕ) (t : List ℕ) (ok : treeRefusal (pos v) maxPly t ≡ 0) (hn : maxPly < v) (hv : v ≤ 30000) (k : ℕ) (h : k < nodesOf t) where
-  pub eval-low : 32768 + maxPly < off (evalOf t k) + v
-  eval-low = within.eval-low v maxPly (evalOf t k) hn hv (eval-mag t k) (eval_right (pos v) maxPly t ok k h)
+module _ (v maxPly : ℕ) (t : List ℕ) (ok : tree_refusal (pos v) maxPly t ≡ 0) (hn : maxPly < v) (hv : v ≤ 30000) (k : ℕ) (h : k < nodes_of t) where
+  pub eval_low : 32768 + maxPly < off (eval_of t k) + v
+  eval_low = within.eval_low v maxPly (eval_of t k) hn hv (eval_mag t k) (eval_right_lem (pos v) maxPly t ok k h)
 
-  pub eval-high : off (evalOf t k) + maxPly < 32768 + v
-  eval-high = within.eval-high v maxPly (evalOf t k) hn hv (eval-mag t k) (eval_right (pos v) maxPly t ok k h)
+  pub eval_high : off (eval_of t k) + maxPly < 32768 + v
+  eval_high = within.eval_high v maxPly (eval_of t k) hn hv (eval_mag t k) (eval_right_lem (pos v) maxPly t ok k h)

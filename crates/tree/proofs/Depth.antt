@@ -2,12 +2,12 @@
 -- Assumes nothing.
 use Rattle.std.proofs.Common.{◌≡◌, ℕ, zero, suc, ◌+◌, ◌<◌, ◌≤◌, Bool, true, false, ltb, List, refl, subst, add-one, arith, ltb-false, ltb-true, eqb-true}
 use borrow.Author.Tests.{eqb-false}
-use Rattle.tree.specs.Blocks.{nodesOf}
+use Rattle.tree.specs.Blocks.{nodes_of}
 use Rattle.tree.specs.Layout.{start_of, Laid}
-use Rattle.tree.specs.Level.{edge, levelOf, levelsRight}
-use Rattle.tree.proofs.Laid.{start_none, start-more, start-mono, start-total, start-above, children-right}
+use Rattle.tree.specs.Level.{edge, level_of, levels_right}
+use Rattle.tree.proofs.Laid.{start_none, start_more, start_mono, start_total, start_above, children_right_lem}
 use Rattle.tree.proofs.Parents.{ChildOf, parent}
-use Rattle.tree.proofs.Levels.{edge_more, edge-one, edge_in, level-root, level-child, level-most}
+use Rattle.tree.proofs.Levels.{edge_more, edge_one, edge_in, level_root, level_child, level_most}
 
 -- the node c lies n moves below the root
 pub data Below (t : List ℕ) : ℕ → ℕ → Type 0 where
@@ -17,24 +17,24 @@ pub data Below (t : List ℕ) : ℕ → ℕ → Type 0 where
 -- a node of the tree that lies n moves below the root
 pub record Deep (t : List ℕ) (n : ℕ) : Type 0 where
   pub node : ℕ
-  pub in_tree : node < nodesOf t
+  pub in_tree : node < nodes_of t
   pub below : Below t n node
 
 module _ (t : List ℕ) (ok : Laid t) where
   -- a child of the tree has its parent there
-  parent_in : (k c : ℕ) → ChildOf t k c → c < nodesOf t → k < nodesOf t
-  parent_in k c p h = go (ltb k (nodesOf t)) refl
+  parent_in : (k c : ℕ) → ChildOf t k c → c < nodes_of t → k < nodes_of t
+  parent_in k c p h = go (ltb k (nodes_of t)) refl
     where
-      go : (b : Bool) → ltb k (nodesOf t) ≡ b → k < nodesOf t
-      go true e = ltb-true k (nodesOf t) e
-      go false e = absurd (omega (arith, start-mono t (nodesOf t) k (ltb-false k (nodesOf t) e), start-total t ok, p.low))
+      go : (b : Bool) → ltb k (nodes_of t) ≡ b → k < nodes_of t
+      go true e = ltb-true k (nodes_of t) e
+      go false e = absurd (omega (arith, start_mono t (nodes_of t) k (ltb-false k (nodes_of t) e), start_total t ok, p.low))
 
   -- where no node lies deeper than level 100, a node's level is the number of moves to it
-  pub moves-level : (n c : ℕ) → edge t 101 ≡ nodesOf t → Below t n c → c < nodesOf t → levelOf t c ≡ n
-  moves-level zero zero d root h = level-root t 100
-  moves-level (suc n) c d (move k b p) h =
-      let i = moves-level n k d b (parent_in k c p h) in
-      omega (arith, level-child t k c p (omega arith))
+  pub moves_level : (n c : ℕ) → edge t 101 ≡ nodes_of t → Below t n c → c < nodes_of t → level_of t c ≡ n
+  moves_level zero zero d root h = level_root t 100
+  moves_level (suc n) c d (move k b p) h =
+      let i = moves_level n k d b (parent_in k c p h) in
+      omega (arith, level_child t k c p (omega arith))
 
   edge-suc : (l : ℕ) → edge t (suc l) ≡ start_of t (edge t l)
   unfolding edge
@@ -45,7 +45,7 @@ module _ (t : List ℕ) (ok : Laid t) where
   not-before l c k p lo = go (ltb k (edge t l)) refl
     where
       go : (b : Bool) → ltb k (edge t l) ≡ b → edge t l ≤ k
-      go true e = let q = ltb-true k (edge t l) e in absurd (omega (arith, start-mono t (k + 1) (edge t l) (omega arith), start-more t k, p.high))
+      go true e = let q = ltb-true k (edge t l) e in absurd (omega (arith, start_mono t (k + 1) (edge t l) (omega arith), start_more t k, p.high))
       go false e = ltb-false k (edge t l) e
 
   not_behind : (l c k : ℕ) → ChildOf t k c → c < start_of t (edge t (suc l)) → k < edge t (l + 1)
@@ -53,26 +53,26 @@ module _ (t : List ℕ) (ok : Laid t) where
     where
       go : (b : Bool) → ltb k (edge t (suc l)) ≡ b → k < edge t (suc l)
       go true e = ltb-true k (edge t (suc l)) e
-      go false e = absurd (omega (arith, start-mono t (edge t (suc l)) k (ltb-false k (edge t (suc l)) e), p.low))
+      go false e = absurd (omega (arith, start_mono t (edge t (suc l)) k (ltb-false k (edge t (suc l)) e), p.low))
 
   -- the nodes from where level l begins to where the next does lie l moves below the root
-  between : (l c : ℕ) → edge t l ≤ c → c < edge t (l + 1) → c < nodesOf t → Below t l c
-  between zero c lo hi h = let e : 0 ≡ c = omega (arith, edge-one t) in subst (Below t 0) e root
+  between : (l c : ℕ) → edge t l ≤ c → c < edge t (l + 1) → c < nodes_of t → Below t l c
+  between zero c lo hi h = let e : 0 ≡ c = omega (arith, edge_one t) in subst (Below t 0) e root
   between (suc l) c lo hi h =
       let a = edge-suc l in
       let b : c < start_of t (edge t (suc l)) = omega (arith, edge_more t (suc l)) in
-      let m = start-mono t 0 (edge t l) (omega arith) in
+      let m = start_mono t 0 (edge t l) (omega arith) in
       let p = parent t ok c (omega (arith, start_none t)) h in
       move p.node (between l p.node (not-before l c p.node p.child (omega arith)) (not_behind l c p.node p.child b) (omega (arith, p.below))) p.child
 
-  pub within : levelsRight t ≡ true → (n c : ℕ) → Below t n c → c < nodesOf t → n ≤ 100
-  unfolding levelsRight
-  within e n c b h = omega (arith, moves-level n c (eqb-true (edge t 101) (nodesOf t) e) b h, level-most t 100 c)
+  pub within : levels_right t ≡ true → (n c : ℕ) → Below t n c → c < nodes_of t → n ≤ 100
+  unfolding levels_right
+  within e n c b h = omega (arith, moves_level n c (eqb-true (edge t 101) (nodes_of t) e) b h, level_most t 100 c)
 
-  pub beyond : levelsRight t ≡ false → Deep t 101
-  unfolding levelsRight
+  pub beyond : levels_right t ≡ false → Deep t 101
+  unfolding levels_right
   beyond e =
-      let n = eqb-false (edge t 101) (nodesOf t) e in
-      let h : edge t 101 < nodesOf t = omega (arith, edge_in t ok 101, n) in
-      let a = start-above t (edge t 101) (children-right t ok (edge t 101) h) in
+      let n = eqb-false (edge t 101) (nodes_of t) e in
+      let h : edge t 101 < nodes_of t = omega (arith, edge_in t ok 101, n) in
+      let a = start_above t (edge t 101) (children_right_lem t ok (edge t 101) h) in
       record { node = edge t 101; in_tree = h; below = between 101 (edge t 101) (omega arith) (omega (arith, a, edge_more t 101)) h }

@@ -19,15 +19,15 @@ pub four : (a b c d : Bool) → (a && b && c && d) ≡ true → (a ≡ true) × 
 four a b c d e = let p = two (a && b && c) d e in let q = three a b c p.0 in (q.0, q.1, q.2, p.1)
 
 module _ (p : ℕ → Bool) where
-  pub every-none : all_below p 0 ≡ true
+  pub every_none : all_below p 0 ≡ true
   unfolding all_below
-  every-none = refl
+  every_none = refl
 
   -- what it means
-  pub every-at : (n k : ℕ) → all_below p n ≡ true → k < n → p k ≡ true
+  pub every_at : (n k : ℕ) → all_below p n ≡ true → k < n → p k ≡ true
   unfolding all_below
-  every-at zero k e l = absurd (omega arith)
-  every-at (suc n) k e l = go (every-at n k (two (all_below p n) (p n) e).0) (ltb k n) refl
+  every_at zero k e l = absurd (omega arith)
+  every_at (suc n) k e l = go (every_at n k (two (all_below p n) (p n) e).0) (ltb k n) refl
     where
       go : (k < n → p k ≡ true) → (b : Bool) → ltb k n ≡ b → p k ≡ true
       go f true t = f (ltb-true k n t)
@@ -47,16 +47,16 @@ module _ (p : ℕ → Bool) where
   every_more i e h = rw add-one (both e h)
 
   -- all of them
-  pub every-all : (i n : ℕ) → n ≤ i → i ≤ n → all_below p i ≡ true → true ≡ all_below p n
-  every-all i n l u e = sym (subst (λ (j : ℕ). all_below p j ≡ true) (same l u) e)
+  pub every_all : (i n : ℕ) → n ≤ i → i ≤ n → all_below p i ≡ true → true ≡ all_below p n
+  every_all i n l u e = sym (subst (λ (j : ℕ). all_below p j ≡ true) (same l u) e)
     where
       same : n ≤ i → i ≤ n → i ≡ n
       same l u = omega arith
 
   -- one that fails
-  pub every-fails : (i n : ℕ) → i < n → p i ≡ false → false ≡ all_below p n
-  every-fails i n l f = go (all_below p n) refl
+  pub every_fails : (i n : ℕ) → i < n → p i ≡ false → false ≡ all_below p n
+  every_fails i n l f = go (all_below p n) refl
     where
       go : (b : Bool) → all_below p n ≡ b → false ≡ all_below p n
-      go true e = absurd (true≢false (sym (every-at n i e l) ∙ f))
+      go true e = absurd (true≢false (sym (every_at n i e l) ∙ f))
       go false e = sym e

@@ -2,47 +2,47 @@
 use Rattle.std.proofs.Common.{◌≡◌, ℕ, ◌^◌, List, [], ◌∷◌, ◌++◌, replicate, pos, refl}
 use Rattle.tree.specs.Pick.{all_below}
 use Rattle.record.specs.Bytes.{le}
-use Rattle.record.specs.Node.{recordAt, first_of, count_of, flags_of, evalOf, move_of}
-use Rattle.tree.specs.Blocks.{lengthRight, checkTo, usedRight, blockRight, blocksRight, nodesOf}
-use Rattle.tree.specs.Layout.{start_of, childrenRight, layoutRight}
-use Rattle.tree.specs.Fields.{evalRight, moveRight, differ, apart, siblingsRight, fieldsOk, unusedZero, unusedRight, fieldsRight}
-use Rattle.tree.specs.Level.{edge, levelsRight}
-use Rattle.tree.specs.Refusal.{treeRefusal}
+use Rattle.record.specs.Node.{record_at, first_of, count_of, flags_of, eval_of, move_of}
+use Rattle.tree.specs.Blocks.{length_right, check_to, used_right, block_right, blocks_right, nodes_of}
+use Rattle.tree.specs.Layout.{start_of, children_right, layout_right}
+use Rattle.tree.specs.Fields.{eval_right, move_right, differ, apart, siblings_right, fields_ok, unused_zero, unused_right, fields_right}
+use Rattle.tree.specs.Level.{edge, levels_right}
+use Rattle.tree.specs.Refusal.{tree_refusal}
 
 -- "First word 1 and the rest zero gives 2^30."
-pub first-word-one : checkTo (1 ∷ replicate 511 0) 0 127 ≡ 2 ^ 30
-unfolding le checkTo
-first-word-one = refl
+pub first_word_one : check_to (1 ∷ replicate 511 0) 0 127 ≡ 2 ^ 30
+unfolding le check_to
+first_word_one = refl
 
 -- "Root whose one child is in check and childless": the root, its child with move 16, hashes 1 and 2
-abbrev mate-root : List ℕ
-mate-root = 1 ∷ 0 ∷ 1 ∷ 0 ∷ 0 ∷ 0 ∷ 0 ∷ 0 ∷ 1 ∷ 0 ∷ 0 ∷ 0 ∷ 0 ∷ 0 ∷ 0 ∷ 0 ∷ []
+abbrev mate_root : List ℕ
+mate_root = 1 ∷ 0 ∷ 1 ∷ 0 ∷ 0 ∷ 0 ∷ 0 ∷ 0 ∷ 1 ∷ 0 ∷ 0 ∷ 0 ∷ 0 ∷ 0 ∷ 0 ∷ 0 ∷ []
 
-abbrev mate-child : List ℕ
-mate-child = 0 ∷ 0 ∷ 0 ∷ 1 ∷ 0 ∷ 0 ∷ 16 ∷ 0 ∷ 2 ∷ 0 ∷ 0 ∷ 0 ∷ 0 ∷ 0 ∷ 0 ∷ 0 ∷ []
+abbrev mate_child : List ℕ
+mate_child = 0 ∷ 0 ∷ 0 ∷ 1 ∷ 0 ∷ 0 ∷ 16 ∷ 0 ∷ 2 ∷ 0 ∷ 0 ∷ 0 ∷ 0 ∷ 0 ∷ 0 ∷ 0 ∷ []
 
 -- the zeros behind the records, then the mark, the block's number, the records used, four zeros and the check
 unfoldable pub mate : List ℕ
-mate = mate-root ++ (mate-child ++ (replicate 464 0 ++ (103 ∷ 116 ∷ 114 ∷ 101 ∷ 0 ∷ 0 ∷ 2 ∷ 0 ∷ 0 ∷ 0 ∷ 0 ∷ 0 ∷ 157 ∷ 49 ∷ 210 ∷ 231 ∷ [])))
+mate = mate_root ++ (mate_child ++ (replicate 464 0 ++ (103 ∷ 116 ∷ 114 ∷ 101 ∷ 0 ∷ 0 ∷ 2 ∷ 0 ∷ 0 ∷ 0 ∷ 0 ∷ 0 ∷ 157 ∷ 49 ∷ 210 ∷ 231 ∷ [])))
 
-pub mate-accepted : treeRefusal (pos 30000) 128 mate ≡ 0
-unfolding mate treeRefusal lengthRight blocksRight blockRight usedRight checkTo nodesOf all_below le recordAt first_of count_of flags_of evalOf move_of start_of childrenRight layoutRight evalRight moveRight differ apart siblingsRight fieldsOk unusedZero unusedRight fieldsRight edge levelsRight
-mate-accepted = refl
+pub mate_accepted : tree_refusal (pos 30000) 128 mate ≡ 0
+unfolding mate tree_refusal length_right blocks_right block_right used_right check_to nodes_of all_below le record_at first_of count_of flags_of eval_of move_of start_of children_right layout_right eval_right move_right differ apart siblings_right fields_ok unused_zero unused_right fields_right edge levels_right
+mate_accepted = refl
 
 -- "Two quiet childless children, not in check, moves 16 and 32, evaluations 30 and -40, root evaluation 0, hashes 1, 2, 3"
-abbrev quiet-root : List ℕ
-quiet-root = 1 ∷ 0 ∷ 2 ∷ 0 ∷ 0 ∷ 0 ∷ 0 ∷ 0 ∷ 1 ∷ 0 ∷ 0 ∷ 0 ∷ 0 ∷ 0 ∷ 0 ∷ 0 ∷ []
+abbrev quiet_root : List ℕ
+quiet_root = 1 ∷ 0 ∷ 2 ∷ 0 ∷ 0 ∷ 0 ∷ 0 ∷ 0 ∷ 1 ∷ 0 ∷ 0 ∷ 0 ∷ 0 ∷ 0 ∷ 0 ∷ 0 ∷ []
 
-abbrev quiet-child1 : List ℕ
-quiet-child1 = 0 ∷ 0 ∷ 0 ∷ 2 ∷ 30 ∷ 0 ∷ 16 ∷ 0 ∷ 2 ∷ 0 ∷ 0 ∷ 0 ∷ 0 ∷ 0 ∷ 0 ∷ 0 ∷ []
+abbrev quiet_child1 : List ℕ
+quiet_child1 = 0 ∷ 0 ∷ 0 ∷ 2 ∷ 30 ∷ 0 ∷ 16 ∷ 0 ∷ 2 ∷ 0 ∷ 0 ∷ 0 ∷ 0 ∷ 0 ∷ 0 ∷ 0 ∷ []
 
-abbrev quiet-child2 : List ℕ
-quiet-child2 = 0 ∷ 0 ∷ 0 ∷ 2 ∷ 216 ∷ 255 ∷ 32 ∷ 0 ∷ 3 ∷ 0 ∷ 0 ∷ 0 ∷ 0 ∷ 0 ∷ 0 ∷ 0 ∷ []
+abbrev quiet_child2 : List ℕ
+quiet_child2 = 0 ∷ 0 ∷ 0 ∷ 2 ∷ 216 ∷ 255 ∷ 32 ∷ 0 ∷ 3 ∷ 0 ∷ 0 ∷ 0 ∷ 0 ∷ 0 ∷ 0 ∷ 0 ∷ []
 
 -- the zeros behind the records, then the mark, the block's number, the records used, four zeros and the check
 unfoldable pub quiet : List ℕ
-quiet = quiet-root ++ (quiet-child1 ++ (quiet-child2 ++ (replicate 448 0 ++ (103 ∷ 116 ∷ 114 ∷ 101 ∷ 0 ∷ 0 ∷ 3 ∷ 0 ∷ 0 ∷ 0 ∷ 0 ∷ 0 ∷ 190 ∷ 245 ∷ 8 ∷ 31 ∷ []))))
+quiet = quiet_root ++ (quiet_child1 ++ (quiet_child2 ++ (replicate 448 0 ++ (103 ∷ 116 ∷ 114 ∷ 101 ∷ 0 ∷ 0 ∷ 3 ∷ 0 ∷ 0 ∷ 0 ∷ 0 ∷ 0 ∷ 190 ∷ 245 ∷ 8 ∷ 31 ∷ []))))
 
-pub quiet-accepted : treeRefusal (pos 30000) 128 quiet ≡ 0
-unfolding quiet treeRefusal lengthRight blocksRight blockRight usedRight checkTo nodesOf all_below le recordAt first_of count_of flags_of evalOf move_of start_of childrenRight layoutRight evalRight moveRight differ apart siblingsRight fieldsOk unusedZero unusedRight fieldsRight edge levelsRight
-quiet-accepted = refl
+pub quiet_accepted : tree_refusal (pos 30000) 128 quiet ≡ 0
+unfolding quiet tree_refusal length_right blocks_right block_right used_right check_to nodes_of all_below le record_at first_of count_of flags_of eval_of move_of start_of children_right layout_right eval_right move_right differ apart siblings_right fields_ok unused_zero unused_right fields_right edge levels_right
+quiet_accepted = refl

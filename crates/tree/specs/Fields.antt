@@ -1,12 +1,12 @@
 -- Row 4 of the refusals: flags, evaluations, moves, siblings and unused records. Assumes nothing.
 use Rattle.std.specs.Prelude.{ℕ, ◌+◌, ◌-◌, ◌*◌, Bool, true, false, not, ◌&&◌, List, ℤ, pos, ◌-ℤ◌, neg_ℤ, ◌==◌, int_lt, nat_lt, slice_index}
 use Rattle.tree.specs.Pick.{all_below}
-use Rattle.record.specs.Node.{flags_of, evalOf, move_of, first_of, count_of}
-use Rattle.tree.specs.Blocks.{blocksOf, usedIn, nodesOf}
+use Rattle.record.specs.Node.{flags_of, eval_of, move_of, first_of, count_of}
+use Rattle.tree.specs.Blocks.{blocks_of, used_in, nodes_of}
 
 -- 01, The tree: "Evaluations lie strictly inside plus and minus (INF - MAX_PLY)."
-unfoldable pub evalRight : ℤ → ℕ → ℤ → Bool
-evalRight inf maxPly e = int_lt (neg_ℤ (inf -ℤ pos maxPly)) e && int_lt e (inf -ℤ pos maxPly)
+unfoldable pub eval_right : ℤ → ℕ → ℤ → Bool
+eval_right inf maxPly e = int_lt (neg_ℤ (inf -ℤ pos maxPly)) e && int_lt e (inf -ℤ pos maxPly)
 
 -- the second test holds exactly where the first does
 abbrev pub only : Bool → Bool → Bool
@@ -14,8 +14,8 @@ only true b = b
 only false b = not b
 
 -- 01, The tree: "The root's move is 0, every other is not"
-unfoldable pub moveRight : List ℕ → ℕ → Bool
-moveRight t k = only (k == 0) (move_of t k == 0)
+unfoldable pub move_right : List ℕ → ℕ → Bool
+move_right t k = only (k == 0) (move_of t k == 0)
 
 -- child i of the children that begin at `first` has another move than child j
 unfoldable pub differ : List ℕ → ℕ → ℕ → ℕ → Bool
@@ -26,25 +26,25 @@ unfoldable pub apart : List ℕ → ℕ → ℕ → Bool
 apart t first i = all_below (differ t first i) i
 
 -- 01, The tree: "siblings differ"
-unfoldable pub siblingsRight : List ℕ → ℕ → Bool
-siblingsRight t k = all_below (apart t (first_of t k)) (count_of t k)
+unfoldable pub siblings_right : List ℕ → ℕ → Bool
+siblings_right t k = all_below (apart t (first_of t k)) (count_of t k)
 
 -- 01, The tree: "5 to 7 zero", and the rules above
-unfoldable pub fieldsOk : ℤ → ℕ → List ℕ → ℕ → Bool
-fieldsOk inf maxPly t k =
+unfoldable pub fields_ok : ℤ → ℕ → List ℕ → ℕ → Bool
+fields_ok inf maxPly t k =
     nat_lt (flags_of t k) 32
-    && evalRight inf maxPly (evalOf t k)
-    && moveRight t k
-    && siblingsRight t k
+    && eval_right inf maxPly (eval_of t k)
+    && move_right t k
+    && siblings_right t k
 
 -- the byte i places behind the last used record of the last block is zero
-unfoldable pub unusedZero : List ℕ → ℕ → Bool
-unusedZero t i = slice_index t (512 * (blocksOf t - 1) + 16 * usedIn t (blocksOf t - 1) + i) == 0
+unfoldable pub unused_zero : List ℕ → ℕ → Bool
+unused_zero t i = slice_index t (512 * (blocks_of t - 1) + 16 * used_in t (blocks_of t - 1) + i) == 0
 
 -- 01, The tree: "Unused records are zero."
-unfoldable pub unusedRight : List ℕ → Bool
-unusedRight t = all_below (unusedZero t) (496 - 16 * usedIn t (blocksOf t - 1))
+unfoldable pub unused_right : List ℕ → Bool
+unused_right t = all_below (unused_zero t) (496 - 16 * used_in t (blocks_of t - 1))
 
 -- row 4: "flags, evaluation, move, sibling or unused-record rule broken", of no node and no unused record
-unfoldable pub fieldsRight : ℤ → ℕ → List ℕ → Bool
-fieldsRight inf maxPly t = all_below (fieldsOk inf maxPly t) (nodesOf t) && unusedRight t
+unfoldable pub fields_right : ℤ → ℕ → List ℕ → Bool
+fields_right inf maxPly t = all_below (fields_ok inf maxPly t) (nodes_of t) && unused_right t

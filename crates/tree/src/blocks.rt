@@ -1,12 +1,12 @@
 // Rows 1 and 2: the length, and each block's mark, number, used count, zero bytes and check.
 ghost use Rattle.std.specs.Prelude.{◌≡◌, ◌+◌, ◌*◌, ◌<◌, ◌≤◌, true, length};
-ghost use Rattle.tree.specs.Blocks.{lengthRight, turn_of, checkTo, usedRight, blockRight, blocksRight, nodesOf};
+ghost use Rattle.tree.specs.Blocks.{length_right, turn_of, check_to, used_right, block_right, blocks_right, nodes_of};
 
 use record::bytes;
 
 // One to 128 blocks of 512 bytes.
 pub fn length_right(tree: &[u8]) -> bool
-    ensures { result ≡ lengthRight tree.now }
+    ensures { result ≡ length_right tree.now }
 {
     if tree.len() % 512 != 0 {
         return false;
@@ -28,7 +28,7 @@ fn turn(check: u32, word: u32) -> u32
 // The check of the block that begins at `at`, from its first 127 words.
 fn block_check(tree: &[u8], at: usize) -> u32
     requires { at + 512 ≤ length tree.now }
-    ensures { result ≡ checkTo tree.now at 127 }
+    ensures { result ≡ check_to tree.now at 127 }
 {
     let mut check: u32 = 0;
     for i in 0..127 {
@@ -40,7 +40,7 @@ fn block_check(tree: &[u8], at: usize) -> u32
 // 31 records are used in all but the last block, 1 to 31 there.
 fn used_right(tree: &[u8], block: usize) -> bool
     requires { 512 * block + 512 ≤ length tree.now }
-    ensures { result ≡ usedRight tree.now block }
+    ensures { result ≡ used_right tree.now block }
 {
     let used = bytes::le16(tree, 512 * block + 502);
     if block + 1 == tree.len() / 512 {
@@ -59,7 +59,7 @@ fn used_right(tree: &[u8], block: usize) -> bool
 // Row 2, of one block.
 fn block_right(tree: &[u8], block: usize) -> bool
     requires { 512 * block + 512 ≤ length tree.now }
-    ensures { result ≡ blockRight tree.now block }
+    ensures { result ≡ block_right tree.now block }
 {
     let at = 512 * block;
     if bytes::le32(tree, at + 496) != 0x65727467 {
@@ -79,7 +79,7 @@ fn block_right(tree: &[u8], block: usize) -> bool
 
 // Row 2, of the whole tree.
 pub fn blocks_right(tree: &[u8]) -> bool
-    ensures { result ≡ blocksRight tree.now }
+    ensures { result ≡ blocks_right tree.now }
 {
     let n = tree.len() / 512;
     let mut b = 0;
@@ -95,7 +95,7 @@ pub fn blocks_right(tree: &[u8]) -> bool
 // How many nodes the tree has.
 pub fn nodes(tree: &[u8]) -> usize
     requires { 512 ≤ length tree.now }
-    ensures { result ≡ nodesOf tree.now }
+    ensures { result ≡ nodes_of tree.now }
 {
     let last = tree.len() / 512 - 1;
     31 * last + bytes::le16(tree, 512 * last + 502) as usize

@@ -1,16 +1,16 @@
 // Row 4: flags, evaluations, moves, siblings and unused records.
 ghost use Rattle.std.specs.Prelude.{◌≡◌, ◌+◌, ◌<◌, ◌≤◌, length};
-ghost use Rattle.record.specs.Node.{recordAt};
-ghost use Rattle.tree.specs.Blocks.{nodesOf, Blocked};
+ghost use Rattle.record.specs.Node.{record_at};
+ghost use Rattle.tree.specs.Blocks.{nodes_of, Blocked};
 ghost use Rattle.tree.specs.Layout.{Laid};
-ghost use Rattle.tree.specs.Fields.{evalRight, moveRight, apart, siblingsRight, fieldsOk, unusedRight, fieldsRight};
+ghost use Rattle.tree.specs.Fields.{eval_right, move_right, apart, siblings_right, fields_ok, unused_right, fields_right};
 
 use crate::blocks;
 use record::{bytes, node};
 
 // Strictly inside plus and minus (INF - MAX_PLY).
 fn eval_right(e: i16, inf: i16, max_ply: u16) -> bool
-    ensures { result ≡ evalRight inf max_ply e }
+    ensures { result ≡ eval_right inf max_ply e }
 {
     let most = inf as i32 - max_ply as i32;
     if e as i32 <= -most {
@@ -21,8 +21,8 @@ fn eval_right(e: i16, inf: i16, max_ply: u16) -> bool
 
 // The root's move is 0, every other is not.
 fn move_right(tree: &[u8], k: usize) -> bool
-    requires { recordAt k + 16 ≤ length tree.now }
-    ensures { result ≡ moveRight tree.now k }
+    requires { record_at k + 16 ≤ length tree.now }
+    ensures { result ≡ move_right tree.now k }
 {
     let m = node::move_to(tree, k);
     if k == 0 { m == 0 } else { m != 0 }
@@ -31,7 +31,7 @@ fn move_right(tree: &[u8], k: usize) -> bool
 // Child i has another move than each child before it.
 fn move_apart(tree: &[u8], first: usize, i: usize) -> bool
     requires blocked { Blocked tree.now }
-    requires i_bound { first + i < nodesOf tree.now }
+    requires i_bound { first + i < nodes_of tree.now }
     ensures { result ≡ apart tree.now first i }
 {
     let m = node::move_to(tree, first + i);
@@ -48,8 +48,8 @@ fn move_apart(tree: &[u8], first: usize, i: usize) -> bool
 // The moves of a node's children differ.
 fn siblings_right(tree: &[u8], k: usize) -> bool
     requires laid { Laid tree.now }
-    requires k_bound { k < nodesOf tree.now }
-    ensures { result ≡ siblingsRight tree.now k }
+    requires k_bound { k < nodes_of tree.now }
+    ensures { result ≡ siblings_right tree.now k }
 {
     let first = node::first_child(tree, k);
     let count = node::child_count(tree, k);
@@ -66,8 +66,8 @@ fn siblings_right(tree: &[u8], k: usize) -> bool
 // Row 4, of one node.
 fn node_right(tree: &[u8], k: usize, inf: i16, max_ply: u16) -> bool
     requires laid { Laid tree.now }
-    requires k_bound { k < nodesOf tree.now }
-    ensures { result ≡ fieldsOk inf max_ply tree.now k }
+    requires k_bound { k < nodes_of tree.now }
+    ensures { result ≡ fields_ok inf max_ply tree.now k }
 {
     if node::flags(tree, k) >= 32 {
         return false;
@@ -84,7 +84,7 @@ fn node_right(tree: &[u8], k: usize, inf: i16, max_ply: u16) -> bool
 // The bytes of the last block behind its last used record.
 fn unused_right(tree: &[u8]) -> bool
     requires { Blocked tree.now }
-    ensures { result ≡ unusedRight tree.now }
+    ensures { result ≡ unused_right tree.now }
 {
     let last = tree.len() / 512 - 1;
     let used = bytes::le16(tree, 512 * last + 502) as usize;
@@ -103,7 +103,7 @@ fn unused_right(tree: &[u8]) -> bool
 // Row 4, of the whole tree.
 pub fn fields_right(tree: &[u8], inf: i16, max_ply: u16) -> bool
     requires { Laid tree.now }
-    ensures { result ≡ fieldsRight inf max_ply tree.now }
+    ensures { result ≡ fields_right inf max_ply tree.now }
 {
     let n = blocks::nodes(tree);
     let mut k = 0;

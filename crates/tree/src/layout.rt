@@ -1,17 +1,17 @@
 // Row 3: child counts and the breadth-first rule.
 ghost use Rattle.std.specs.Prelude.{◌≡◌, ◌+◌, ◌≤◌, length};
-ghost use Rattle.record.specs.Node.{recordAt};
+ghost use Rattle.record.specs.Node.{record_at};
 ghost use Rattle.tree.specs.Blocks.{Blocked};
-ghost use Rattle.tree.specs.Layout.{start_of, childrenRight, layoutRight};
+ghost use Rattle.tree.specs.Layout.{start_of, children_right, layout_right};
 
 use crate::blocks;
 use record::node;
 
 // The count, the start and the first child of one node, whose start the caller has summed up.
 fn children_right(tree: &[u8], k: usize, start: usize) -> bool
-    requires k_in_bounds { recordAt k + 16 ≤ length tree.now }
+    requires k_in_bounds { record_at k + 16 ≤ length tree.now }
     requires start_value { start ≡ start_of tree.now k }
-    ensures { result ≡ childrenRight tree.now k }
+    ensures { result ≡ children_right tree.now k }
 {
     let count = node::child_count(tree, k);
     if count > 63 {
@@ -29,7 +29,7 @@ fn children_right(tree: &[u8], k: usize, start: usize) -> bool
 // Row 3, of the whole tree. The starts are summed up on the way.
 pub fn layout_right(tree: &[u8]) -> bool
     requires { Blocked tree.now }
-    ensures { result ≡ layoutRight tree.now }
+    ensures { result ≡ layout_right tree.now }
 {
     let n = blocks::nodes(tree);
     let mut start: usize = 1;

@@ -1,8 +1,8 @@
 // Row 5, and a node's level: how many moves below the root it lies. Each pass goes over the nodes once.
 ghost use Rattle.std.specs.Prelude.{◌≡◌, ◌≤◌};
-ghost use Rattle.tree.specs.Blocks.{nodesOf};
+ghost use Rattle.tree.specs.Blocks.{nodes_of};
 ghost use Rattle.tree.specs.Layout.{start_of, Laid};
-ghost use Rattle.tree.specs.Level.{levelOf, levelsRight};
+ghost use Rattle.tree.specs.Level.{level_of, levels_right};
 
 use crate::blocks;
 use record::node;
@@ -11,7 +11,7 @@ use record::node;
 fn start_from(tree: &[u8], from: usize, start: usize, to: usize) -> usize
     requires laid { Laid tree.now }
     requires from_le_to { from ≤ to }
-    requires to_bound { to ≤ nodesOf tree.now }
+    requires to_bound { to ≤ nodes_of tree.now }
     requires start_value { start ≡ start_of tree.now from }
     ensures { result ≡ start_of tree.now to }
 {
@@ -27,7 +27,7 @@ fn start_from(tree: &[u8], from: usize, start: usize, to: usize) -> usize
 // Row 5: level 101 would begin behind the last node.
 pub fn levels_right(tree: &[u8]) -> bool
     requires { Laid tree.now }
-    ensures { result ≡ levelsRight tree.now }
+    ensures { result ≡ levels_right tree.now }
 {
     let mut begin: usize = 0;
     let mut next: usize = 1;
@@ -42,7 +42,7 @@ pub fn levels_right(tree: &[u8]) -> bool
 // A node's level: how many of the levels 1 to 100 begin at the node or before it.
 pub fn level(tree: &[u8], node: usize) -> usize
     requires { Laid tree.now }
-    ensures { result ≡ levelOf tree.now node }
+    ensures { result ≡ level_of tree.now node }
 {
     let mut begin: usize = 0;
     let mut next: usize = 1;

@@ -1,6 +1,6 @@
 // The tree of blocks: its check, the refusals 1 to 5.
 ghost use Rattle.std.specs.Prelude.{◌≡◌};
-ghost use Rattle.tree.specs.Refusal.{treeRefusal};
+ghost use Rattle.tree.specs.Refusal.{tree_refusal};
 
 pub mod blocks; // blocks.rt: rows 1 and 2
 pub mod fields; // fields.rt: row 4
@@ -9,7 +9,7 @@ pub mod level; // level.rt: row 5, and a node's level
 
 // The number of the first of the refusals 1 to 5 that the tree gets, 0 where it is accepted.
 pub fn check(tree: &[u8], inf: i16, max_ply: u16) -> u8
-    ensures { result ≡ treeRefusal inf max_ply tree.now }
+    ensures { result ≡ tree_refusal inf max_ply tree.now }
 {
     if !blocks::length_right(tree) {
         return 1;

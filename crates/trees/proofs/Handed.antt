@@ -5,27 +5,27 @@ use mathlib.Core.List.{List}
 use Prim.Native.Nat.{ℕ, zero, suc, ◌<◌}
 use native.Mathlib.Omega.{arith}
 use lib.IntN.{ℤ}
-use Rattle.tree.specs.Blocks.{nodesOf}
-use Rattle.refusals.specs.Rows.{nodeRight}
-use Rattle.refusals.specs.First.{first, unless, treeRows}
-use Rattle.refusals.proofs.Given.{first_some, first-none}
+use Rattle.tree.specs.Blocks.{nodes_of}
+use Rattle.refusals.specs.Rows.{node_right}
+use Rattle.refusals.specs.First.{first, unless, tree_rows}
+use Rattle.refusals.proofs.Given.{first_some, first_none}
 use Rattle.refusals.proofs.Meaning.{node_in}
-use Rattle.trees.specs.Records.{recordRows}
+use Rattle.trees.specs.Records.{record_rows}
 
-module _ (inf : ℤ) (maxPly : ℕ) (t : List ℕ) (node r : ℕ) (er : r ≡ treeRows inf maxPly t) where
-  pub rows-tree : (r ≡ 0 → ⊥) → r ≡ recordRows inf maxPly t node
-  unfolding recordRows
-  rows-tree n = rw (← er) (first_some r (unless (nodeRight t node) 7 0) n)
+module _ (inf : ℤ) (maxPly : ℕ) (t : List ℕ) (node r : ℕ) (er : r ≡ tree_rows inf maxPly t) where
+  pub rows_tree : (r ≡ 0 → ⊥) → r ≡ record_rows inf maxPly t node
+  unfolding record_rows
+  rows_tree n = rw (← er) (first_some r (unless (node_right t node) 7 0) n)
 
   module _ (z : r ≡ 0) where
-    rest : unless (nodeRight t node) 7 0 ≡ recordRows inf maxPly t node
-    unfolding recordRows
-    rest = rw (← er) (first-none r (unless (nodeRight t node) 7 0) z)
+    rest : unless (node_right t node) 7 0 ≡ record_rows inf maxPly t node
+    unfolding record_rows
+    rest = rw (← er) (first_none r (unless (node_right t node) 7 0) z)
 
-    pub rows-absent : nodeRight t node ≡ false → 7 ≡ recordRows inf maxPly t node
-    rows-absent e = rw e at rest
+    pub rows_absent : node_right t node ≡ false → 7 ≡ record_rows inf maxPly t node
+    rows_absent e = rw e at rest
 
-    pub rows_none : nodeRight t node ≡ true → 0 ≡ recordRows inf maxPly t node
+    pub rows_none : node_right t node ≡ true → 0 ≡ record_rows inf maxPly t node
     rows_none e = rw e at rest
 
 both : (n : ℕ) (b : Bool) → first n (unless b 7 0) ≡ 0 → (n ≡ 0) × (b ≡ true)
@@ -34,8 +34,8 @@ both zero false e = absurd (omega arith)
 both (suc n) b e = absurd (omega arith)
 
 -- where no refusal is given the tree's rows hold, and the node is there
-pub rows_right : (inf : ℤ) (maxPly : ℕ) (t : List ℕ) (node : ℕ) → recordRows inf maxPly t node ≡ 0 → (treeRows inf maxPly t ≡ 0) × (node < nodesOf t)
-unfolding recordRows
+pub rows_right : (inf : ℤ) (maxPly : ℕ) (t : List ℕ) (node : ℕ) → record_rows inf maxPly t node ≡ 0 → (tree_rows inf maxPly t ≡ 0) × (node < nodes_of t)
+unfolding record_rows
 rows_right inf maxPly t node e =
-    let p = both (treeRows inf maxPly t) (nodeRight t node) e in
+    let p = both (tree_rows inf maxPly t) (node_right t node) e in
     (p.0, node_in t node p.1)

@@ -18,13 +18,13 @@ use Rattle.carry.specs.declared.Turn.{Turn}
 use Rattle.carry.specs.declared.Entered.{Entered}
 use Rattle.carry.specs.declared.Entered.TheVariants.{Answer, Moves}
 use Rattle.carry.specs.Carry.{With}
-use Rattle.enter.specs.Enter.{extendOf, reverseIf, cut_if, probeOf, drawIf, enterOf, hintedOf}
-use Rattle.turn.specs.Window.{countedOf, raiseIf, judgeOf}
-use Rattle.leave.specs.Cutoff.{cutoffOf}
-use Rattle.leave.specs.Finish.{storedOf, endIf, finishIf}
-use Rattle.visits.specs.Search.{Visit, widenIf, againIf, reducedF, futileIf, turnIf, nextIf, walkF, deepenIf, enteredF, depthIf, stopIf, visitF}
-use Rattle.truth.proofs.Closed.{Closed, seen-q, keep-q}
-use Rattle.truth.proofs.KeepsCaptures.{captures-q}
+use Rattle.enter.specs.Enter.{extend_of, reverse_if, cut_if, probe_of, draw_if, enter_of, hinted_of}
+use Rattle.turn.specs.Window.{counted_of, raise_if, judge_of}
+use Rattle.leave.specs.Cutoff.{cutoff_of}
+use Rattle.leave.specs.Finish.{stored_of, end_if, finish_if}
+use Rattle.visits.specs.Search.{Visit, widen_if, again_if, reduced_f, futile_if, turn_if, next_if, walk_f, deepen_if, entered_f, depth_if, stop_if, visit_f}
+use Rattle.truth.proofs.Closed.{Closed, seen_q, keep_q}
+use Rattle.truth.proofs.KeepsCaptures.{captures_q}
 
 -- the state that the steps before the moves leave
 abbrev pub state_of : Entered → State
@@ -41,8 +41,8 @@ module _ (t : List ℕ) (set : Settings) (Q : State → Type 0) (cl : Closed set
 
   -- the steps before the moves
 
-  reverse-q : (b : Bool) (h : Here) (l : Loc) → Q l.state → Q (state_of (reverseIf b h l))
-  unfolding reverseIf
+  reverse-q : (b : Bool) (h : Here) (l : Loc) → Q l.state → Q (state_of (reverse_if b h l))
+  unfolding reverse_if
   reverse-q true h l q = q
   reverse-q false h l q = q
 
@@ -51,109 +51,109 @@ module _ (t : List ℕ) (set : Settings) (Q : State → Type 0) (cl : Closed set
   cut-q true a full w s q = q
   cut-q false a full w s q = reverse-q _ _ _ q
 
-  draw-q : (b : Bool) (words : List ℕ) (s : State) (a : Args) → Q s → Q (state_of (drawIf b set t words s a))
-  unfolding drawIf probeOf
+  draw-q : (b : Bool) (words : List ℕ) (s : State) (a : Args) → Q s → Q (state_of (draw_if b set t words s a))
+  unfolding draw_if probe_of
   draw-q true words s a q = q
-  draw-q false words s a q = cut-q _ a _ _ _ (seen-q set Q cl set.table words s _ q)
+  draw-q false words s a q = cut-q _ a _ _ _ (seen_q set Q cl set.table words s _ q)
 
-  enter-q : (words : List ℕ) (s : State) (a : Args) → Q s → Q (state_of (enterOf set t words s a))
-  unfolding enterOf
+  enter-q : (words : List ℕ) (s : State) (a : Args) → Q s → Q (state_of (enter_of set t words s a))
+  unfolding enter_of
   enter-q words s a q = draw-q _ words s a q
 
   -- one move
 
-  widen-q : (b : Bool) (v : Visit) (h : Here) (l : Loc) (c : ℕ) (r : With Out) → KeepsV v → Q r.it.state → Q (widenIf b v h l c r).it.state
-  unfolding widenIf
+  widen-q : (b : Bool) (v : Visit) (h : Here) (l : Loc) (c : ℕ) (r : With Out) → KeepsV v → Q r.it.state → Q (widen_if b v h l c r).it.state
+  unfolding widen_if
   widen-q true v h l c r kv q = kv _ _ _ _ q
   widen-q false v h l c r kv q = q
 
-  again-q : (b : Bool) (v : Visit) (h : Here) (l : Loc) (c : ℕ) (r : With Out) → KeepsV v → Q r.it.state → Q (againIf b v h l c r).it.state
-  unfolding againIf
+  again-q : (b : Bool) (v : Visit) (h : Here) (l : Loc) (c : ℕ) (r : With Out) → KeepsV v → Q r.it.state → Q (again_if b v h l c r).it.state
+  unfolding again_if
   again-q true v h l c r kv q = widen-q _ v h l c _ kv (kv _ _ _ _ q)
   again-q false v h l c r kv q = widen-q _ v h l c r kv q
 
-  reduced-q : (v : Visit) (h : Here) (l : Loc) (c d : ℕ) (words : List ℕ) (hist : List ℤ) → KeepsV v → Q l.state → Q (reducedF v h l c d words hist).it.state
-  unfolding reducedF
+  reduced-q : (v : Visit) (h : Here) (l : Loc) (c d : ℕ) (words : List ℕ) (hist : List ℤ) → KeepsV v → Q l.state → Q (reduced_f v h l c d words hist).it.state
+  unfolding reduced_f
   reduced-q v h l c d words hist kv q = again-q _ v h l c _ kv (kv _ _ _ _ q)
 
-  raise-q : (b : Bool) (h : Here) (l : Loc) (m : ℕ) (x : ℤ) (s : State) → Q s → Q (raiseIf b h l m x s).loc.state
-  unfolding raiseIf
+  raise-q : (b : Bool) (h : Here) (l : Loc) (m : ℕ) (x : ℤ) (s : State) → Q s → Q (raise_if b h l m x s).loc.state
+  unfolding raise_if
   raise-q true h l m x s q = q
   raise-q false h l m x s q = q
 
-  pub judge-q : (h : Here) (l : Loc) (m : ℕ) (r : Out) → Q r.state → Q (judgeOf h l m r).loc.state
-  unfolding judgeOf
-  judge-q h l m r q = raise-q _ h l m _ r.state q
+  pub judge_q : (h : Here) (l : Loc) (m : ℕ) (r : Out) → Q r.state → Q (judge_of h l m r).loc.state
+  unfolding judge_of
+  judge_q h l m r q = raise-q _ h l m _ r.state q
 
-  futile-q : (b : Bool) (v : Visit) (h : Here) (l : Loc) (c i : ℕ) (words : List ℕ) (hist : List ℤ) → KeepsV v → Q l.state → Q (futileIf b v t set h l c i words hist).it.loc.state
-  unfolding futileIf
+  futile-q : (b : Bool) (v : Visit) (h : Here) (l : Loc) (c i : ℕ) (words : List ℕ) (hist : List ℤ) → KeepsV v → Q l.state → Q (futile_if b v t set h l c i words hist).it.loc.state
+  unfolding futile_if
   futile-q true v h l c i words hist kv q = q
-  futile-q false v h l c i words hist kv q = judge-q h l _ _ (reduced-q v h l c _ words hist kv q)
+  futile-q false v h l c i words hist kv q = judge_q h l _ _ (reduced-q v h l c _ words hist kv q)
 
-  turn-q : (b : Bool) (v : Visit) (h : Here) (l : Loc) (c i : ℕ) (words : List ℕ) (hist : List ℤ) → KeepsV v → Q l.state → Q (turnIf b v t set h l c i words hist).it.loc.state
-  unfolding turnIf
-  turn-q true v h l c i words hist kv q = judge-q h _ _ _ (kv _ _ _ _ q)
+  turn-q : (b : Bool) (v : Visit) (h : Here) (l : Loc) (c i : ℕ) (words : List ℕ) (hist : List ℤ) → KeepsV v → Q l.state → Q (turn_if b v t set h l c i words hist).it.loc.state
+  unfolding turn_if
+  turn-q true v h l c i words hist kv q = judge_q h _ _ _ (kv _ _ _ _ q)
   turn-q false v h l c i words hist kv q = futile-q _ v h l c i words hist kv q
 
-  cutoff-q : (h : Here) (p : Place) (c i : ℕ) (l : Loc) (words : List ℕ) (hist : List ℤ) → Q l.state → Q (cutoffOf t set h p c i l words hist).it.loc.state
-  unfolding cutoffOf
-  cutoff-q h p c i l words hist q = keep-q set Q cl set.table words l.state _ _ _ _ _ q
+  cutoff-q : (h : Here) (p : Place) (c i : ℕ) (l : Loc) (words : List ℕ) (hist : List ℤ) → Q l.state → Q (cutoff_of t set h p c i l words hist).it.loc.state
+  unfolding cutoff_of
+  cutoff-q h p c i l words hist q = keep_q set Q cl set.table words l.state _ _ _ _ _ q
 
-  pub next-q
+  pub next_q
       : (b : Bool) (h : Here) (p : Place) (c i : ℕ) (s : With Turn) (go : Loc → List ℕ → List ℤ → With Turn)
-      → KeepsW go → Q s.it.loc.state → Q (nextIf b t set h p c i s go).it.loc.state
-  unfolding nextIf
-  next-q true h p c i s go kg q = cutoff-q h p c i s.it.loc s.words s.history q
-  next-q false h p c i s go kg q = kg _ _ _ q
+      → KeepsW go → Q s.it.loc.state → Q (next_if b t set h p c i s go).it.loc.state
+  unfolding next_if
+  next_q true h p c i s go kg q = cutoff-q h p c i s.it.loc s.words s.history q
+  next_q false h p c i s go kg q = kg _ _ _ q
 
-  pub walk-q : (v : Visit) (h : Here) (p : Place) (n i : ℕ) → KeepsV v → KeepsW (walkF v t set h p n i)
-  unfolding walkF
-  walk-q v h p zero i kv l words hist q = q
-  walk-q v h p (suc n) i kv l words hist q =
-      next-q _ h p _ i _ _ (walk-q v h p n (i + 1) kv) (turn-q (eqb i 0) v h (countedOf l) _ i words hist kv (cl.counted l.state q))
+  pub walk_q : (v : Visit) (h : Here) (p : Place) (n i : ℕ) → KeepsV v → KeepsW (walk_f v t set h p n i)
+  unfolding walk_f
+  walk_q v h p zero i kv l words hist q = q
+  walk_q v h p (suc n) i kv l words hist q =
+      next_q _ h p _ i _ _ (walk_q v h p n (i + 1) kv) (turn-q (eqb i 0) v h (counted_of l) _ i words hist kv (cl.counted l.state q))
 
   -- the whole visit
 
-  hinted-q : (words : List ℕ) (h : Here) (l : Loc) (r : Out) → Q r.state → Q (hintedOf set t words h l r).state
-  unfolding hintedOf
-  hinted-q words h l r q = seen-q set Q cl set.table words r.state _ q
+  hinted-q : (words : List ℕ) (h : Here) (l : Loc) (r : Out) → Q r.state → Q (hinted_of set t words h l r).state
+  unfolding hinted_of
+  hinted-q words h l r q = seen_q set Q cl set.table words r.state _ q
 
-  deepen-q : (b : Bool) (v : Visit) (h : Here) (l : Loc) (words : List ℕ) (hist : List ℤ) → KeepsV v → Q l.state → Q (deepenIf b v t set h l words hist).it.state
-  unfolding deepenIf
+  deepen-q : (b : Bool) (v : Visit) (h : Here) (l : Loc) (words : List ℕ) (hist : List ℤ) → KeepsV v → Q l.state → Q (deepen_if b v t set h l words hist).it.state
+  unfolding deepen_if
   deepen-q true v h l words hist kv q = hinted-q _ h l _ (kv _ _ _ _ q)
   deepen-q false v h l words hist kv q = q
 
-  end-q : (b : Bool) (h : Here) (l : Loc) (words : List ℕ) → Q l.state → Q (endIf b t set h l words).it.state
-  unfolding endIf storedOf
+  end-q : (b : Bool) (h : Here) (l : Loc) (words : List ℕ) → Q l.state → Q (end_if b t set h l words).it.state
+  unfolding end_if stored_of
   end-q true h l words q = q
-  end-q false h l words q = keep-q set Q cl set.table words l.state _ _ _ _ _ q
+  end-q false h l words q = keep_q set Q cl set.table words l.state _ _ _ _ _ q
 
-  pub finish-q : (b : Bool) (h : Here) (l : Loc) (words : List ℕ) → Q l.state → Q (finishIf b t set h l words).it.state
-  unfolding finishIf
-  finish-q true h l words q = q
-  finish-q false h l words q = end-q _ h l words q
+  pub finish_q : (b : Bool) (h : Here) (l : Loc) (words : List ℕ) → Q l.state → Q (finish_if b t set h l words).it.state
+  unfolding finish_if
+  finish_q true h l words q = q
+  finish_q false h l words q = end-q _ h l words q
 
-  entered-q : (e : Entered) (v : Visit) (words : List ℕ) (hist : List ℤ) → KeepsV v → Q (state_of e) → Q (enteredF e v t set words hist).it.state
-  unfolding enteredF
+  entered-q : (e : Entered) (v : Visit) (words : List ℕ) (hist : List ℤ) → KeepsV v → Q (state_of e) → Q (entered_f e v t set words hist).it.state
+  unfolding entered_f
   entered-q (Answer o) v words hist kv q = q
   entered-q (Moves h l) v words hist kv q =
-      finish-q _ h _ _ (walk-q v h _ (count_of t h.node) 0 kv _ _ _ (deepen-q _ v h l words hist kv q))
+      finish_q _ h _ _ (walk_q v h _ (count_of t h.node) 0 kv _ _ _ (deepen-q _ v h l words hist kv q))
 
   depth-q
       : (b : Bool) (k : ℕ) (v : Visit) (s : State) (words : List ℕ) (hist : List ℤ) (a : Args)
-      → KeepsV v → Q s → Q (depthIf b k v t set s words hist a).it.state
-  unfolding depthIf
-  depth-q true k v s words hist a kv q = captures-q set t Q cl k s words _ q
-  depth-q false k v s words hist a kv q = entered-q (enterOf set t words s a) v words hist kv (enter-q words s a q)
+      → KeepsV v → Q s → Q (depth_if b k v t set s words hist a).it.state
+  unfolding depth_if
+  depth-q true k v s words hist a kv q = captures_q set t Q cl k s words _ q
+  depth-q false k v s words hist a kv q = entered-q (enter_of set t words s a) v words hist kv (enter-q words s a q)
 
   stop-q
       : (b : Bool) (k : ℕ) (v : Visit) (s : State) (words : List ℕ) (hist : List ℤ) (a : Args)
-      → KeepsV v → Q s → Q (stopIf b k v t set s words hist a).it.state
-  unfolding stopIf
+      → KeepsV v → Q s → Q (stop_if b k v t set s words hist a).it.state
+  unfolding stop_if
   stop-q true k v s words hist a kv q = q
-  stop-q false k v s words hist a kv q = depth-q _ k v s words hist (extendOf t a) kv q
+  stop-q false k v s words hist a kv q = depth-q _ k v s words hist (extend_of t a) kv q
 
-  pub visit-q : (k : ℕ) → KeepsV (visitF k t set)
-  unfolding visitF
-  visit-q zero s words hist a q = q
-  visit-q (suc k) s words hist a q = stop-q _ (suc k) (visitF k t set) _ words hist a (visit-q k) (cl.polled s q)
+  pub visit_q : (k : ℕ) → KeepsV (visit_f k t set)
+  unfolding visit_f
+  visit_q zero s words hist a q = q
+  visit_q (suc k) s words hist a q = stop-q _ (suc k) (visit_f k t set) _ words hist a (visit_q k) (cl.polled s q)

@@ -6,10 +6,10 @@ use Prim.Native.Nat.{ℕ, ◌+◌, ◌≤◌, ◌<◌}
 use native.Mathlib.Omega.{arith}
 use lib.IntN.{pos}
 use Rattle.record.specs.Node.{first_of, count_of}
-use Rattle.tree.specs.Blocks.{nodesOf}
-use Rattle.tree.specs.Level.{levelOf}
-use Rattle.tree.specs.Refusal.{treeRefusal}
-use Rattle.tree.proofs.Accepted.{child-in, level-kid}
+use Rattle.tree.specs.Blocks.{nodes_of}
+use Rattle.tree.specs.Level.{level_of}
+use Rattle.tree.specs.Refusal.{tree_refusal}
+use Rattle.tree.proofs.Accepted.{child_in, level_kid}
 use Rattle.state.specs.declared.Settings.{Settings}
 use Rattle.truth.specs.Demand3.{Plain}
 
@@ -30,8 +30,8 @@ plain_of n set =
       inner_deepening = false;
     }
 
-pub plain-is : (n : ℕ) (set : Settings) → set.inf ≡ pos n → Plain set → plain_of n set ≡ set
-plain-is n set e p i =
+pub plain_is : (n : ℕ) (set : Settings) → set.inf ≡ pos n → Plain set → plain_of n set ≡ set
+plain_is n set e p i =
     record {
       inf = sym e i;
       max_ply = set.max_ply;
@@ -40,28 +40,28 @@ plain-is n set e p i =
       limit = set.limit;
       table = sym p.table i;
       delta = sym p.delta i;
-      reverse_futility = sym p.reverse-futility i;
+      reverse_futility = sym p.reverse_futility i;
       futility = sym p.futility i;
-      late_move = sym p.late-move i;
-      inner_deepening = sym p.inner-deepening i;
+      late_move = sym p.late_move i;
+      inner_deepening = sym p.inner_deepening i;
     }
 
 -- what is known of INF, MAX_PLY and the tree
 pub record Known (n maxPly : ℕ) (t : List ℕ) : Type 0 where
-  pub accepted : treeRefusal (pos n) maxPly t ≡ 0
-  pub infLow : 1000 ≤ n
-  pub infHigh : n ≤ 30000
-  pub plyHigh : maxPly ≤ 128
+  pub accepted : tree_refusal (pos n) maxPly t ≡ 0
+  pub inf_low : 1000 ≤ n
+  pub inf_high : n ≤ 30000
+  pub ply_high : maxPly ≤ 128
 
 -- a node of the tree at a ply that a search can meet there
 pub record At (t : List ℕ) (node ply : ℕ) : Type 0 where
-  pub in_tree : node < nodesOf t
-  pub plyMost : ply ≤ levelOf t node + 128
+  pub in_tree : node < nodes_of t
+  pub ply_most : ply ≤ level_of t node + 128
 
 module _ (n maxPly : ℕ) (t : List ℕ) (ok : Known n maxPly t) (node i : ℕ) where
-  pub kid_in : node < nodesOf t → i < count_of t node → first_of t node + i < nodesOf t
-  kid_in h l = child-in (pos n) maxPly t ok.accepted node i h l
+  pub kid_in : node < nodes_of t → i < count_of t node → first_of t node + i < nodes_of t
+  kid_in h l = child_in (pos n) maxPly t ok.accepted node i h l
 
   pub kid_at : (ply : ℕ) → At t node ply → i < count_of t node → At t (first_of t node + i) (ply + 1)
   kid_at ply p l =
-      record { in_tree = kid_in p.in_tree l; plyMost = omega (arith, level-kid (pos n) maxPly t ok.accepted node i p.in_tree l) }
+      record { in_tree = kid_in p.in_tree l; ply_most = omega (arith, level_kid (pos n) maxPly t ok.accepted node i p.in_tree l) }

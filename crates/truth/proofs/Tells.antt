@@ -8,7 +8,7 @@ use lib.IntN.{ℤ, pos}
 use lib.Signed.{lt_z}
 use Rattle.score.specs.Wrap.{neg16, sub16}
 use Rattle.score.proofs.Order.{off}
-use Rattle.score.proofs.Range.{InR, InZ, neg-eq, neg-in, less_one, lt_not}
+use Rattle.score.proofs.Range.{InR, InZ, neg_eq, neg_in, less_one, lt_not}
 
 pub record Tells (inf alpha beta s v : ℕ) : Type 0 where
   pub range : InR inf s
@@ -17,51 +17,51 @@ pub record Tells (inf alpha beta s v : ℕ) : Type 0 where
 
 -- a window within plus and minus INF
 pub record Window (inf : ℕ) (alpha beta : ℤ) : Type 0 where
-  pub alphaIn : InZ inf alpha
-  pub betaIn : InZ inf beta
+  pub alpha_in : InZ inf alpha
+  pub beta_in : InZ inf beta
   pub order : off alpha < off beta
 
-pub same-tells : (inf alpha beta s : ℕ) → InR inf s → Tells inf alpha beta s s
-same-tells inf alpha beta s r = record { range = r; under = omega arith; over = omega arith }
+pub same_tells : (inf alpha beta s : ℕ) → InR inf s → Tells inf alpha beta s s
+same_tells inf alpha beta s r = record { range = r; under = omega arith; over = omega arith }
 
 module _ (inf : ℕ) (i : inf ≤ 30000) (alpha beta : ℤ) (w : Window inf alpha beta) where
   -- a window whose alpha was raised
-  pub raised-window : (a : ℤ) (m : ℕ) → off a ≡ max (off alpha) m → off a < off beta → Window inf a beta
-  raised-window a m e l = record { alphaIn = record { low = omega arith; high = omega arith }; betaIn = w.betaIn; order = l }
+  pub raised_window : (a : ℤ) (m : ℕ) → off a ≡ max (off alpha) m → off a < off beta → Window inf a beta
+  raised_window a m e l = record { alpha_in = record { low = omega arith; high = omega arith }; beta_in = w.beta_in; order = l }
 
   -- a child's window
-  pub neg-window : Window inf (neg16 beta) (neg16 alpha)
-  neg-window =
-      let ea = neg-eq inf alpha i w.alphaIn in
-      let eb = neg-eq inf beta i w.betaIn in
-      record { alphaIn = neg-in inf beta i w.betaIn; betaIn = neg-in inf alpha i w.alphaIn; order = omega arith }
+  pub neg_window : Window inf (neg16 beta) (neg16 alpha)
+  neg_window =
+      let ea = neg_eq inf alpha i w.alpha_in in
+      let eb = neg_eq inf beta i w.beta_in in
+      record { alpha_in = neg_in inf beta i w.beta_in; beta_in = neg_in inf alpha i w.alpha_in; order = omega arith }
 
   -- a child's score, negated, tells of the child's value, negated
-  pub neg-tells : (r : ℤ) (u : ℕ) → InR inf u → Tells inf (off (neg16 beta)) (off (neg16 alpha)) (off r) u → Tells inf (off alpha) (off beta) (off (neg16 r)) (65536 - u)
-  neg-tells r u iu t =
-      let ea = neg-eq inf alpha i w.alphaIn in
-      let eb = neg-eq inf beta i w.betaIn in
-      let er = neg-eq inf r i t.range in
-      record { range = neg-in inf r i t.range; under = omega arith; over = omega arith }
+  pub neg_tells : (r : ℤ) (u : ℕ) → InR inf u → Tells inf (off (neg16 beta)) (off (neg16 alpha)) (off r) u → Tells inf (off alpha) (off beta) (off (neg16 r)) (65536 - u)
+  neg_tells r u iu t =
+      let ea = neg_eq inf alpha i w.alpha_in in
+      let eb = neg_eq inf beta i w.beta_in in
+      let er = neg_eq inf r i t.range in
+      record { range = neg_in inf r i t.range; under = omega arith; over = omega arith }
 
   -- the null window is the window from alpha to alpha + 1
 
-  pub null-window : Window inf (sub16 (neg16 alpha) (pos 1)) (neg16 alpha)
-  null-window =
-      let e = neg-eq inf alpha i w.alphaIn in
-      let n = neg-in inf alpha i w.alphaIn in
+  pub null_window : Window inf (sub16 (neg16 alpha) (pos 1)) (neg16 alpha)
+  null_window =
+      let e = neg_eq inf alpha i w.alpha_in in
+      let n = neg_in inf alpha i w.alpha_in in
       let l = less_one inf (neg16 alpha) i n (omega arith) in
-      record { alphaIn = record { low = omega arith; high = omega arith }; betaIn = n; order = omega arith }
+      record { alpha_in = record { low = omega arith; high = omega arith }; beta_in = n; order = omega arith }
 
   pub null-tells
       : (r : ℤ) (u : ℕ) → InR inf u → Tells inf (off (sub16 (neg16 alpha) (pos 1))) (off (neg16 alpha)) (off r) u
       → Tells inf (off alpha) (suc (off alpha)) (off (neg16 r)) (65536 - u)
   null-tells r u iu t =
-      let e = neg-eq inf alpha i w.alphaIn in
-      let n = neg-in inf alpha i w.alphaIn in
+      let e = neg_eq inf alpha i w.alpha_in in
+      let n = neg_in inf alpha i w.alpha_in in
       let l = less_one inf (neg16 alpha) i n (omega arith) in
-      let er = neg-eq inf r i t.range in
-      record { range = neg-in inf r i t.range; under = omega arith; over = omega arith }
+      let er = neg_eq inf r i t.range in
+      record { range = neg_in inf r i t.range; under = omega arith; over = omega arith }
 
 -- a null window's score that is not strictly inside the window is as good as the window's own
 pub outside-tells

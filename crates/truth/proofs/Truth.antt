@@ -12,33 +12,33 @@ use lib.IntN.{ℤ, pos, neg_ℤ}
 use lib.Signed.{lt_z, le_z}
 use Rattle.score.specs.Wrap.{neg16, sub16}
 use Rattle.score.proofs.Order.{off}
-use Rattle.score.proofs.Range.{InZ, lt_yes, lt_not, le_yes, le_not, neg-off}
-use Rattle.record.specs.Node.{first_of, count_of, move_of, inCheck, isDraw}
+use Rattle.score.proofs.Range.{InZ, lt_yes, lt_not, le_yes, le_not, neg_off}
+use Rattle.record.specs.Node.{first_of, count_of, move_of, in_check, is_draw}
 use Rattle.state.specs.declared.Settings.{Settings}
 use Rattle.state.specs.declared.State.{State}
 use Rattle.state.specs.declared.Out.{Out}
 use Rattle.moves.specs.declared.Place.{Place}
 use Rattle.moves.specs.declared.Place.TheVariants.{Nowhere}
-use Rattle.state.specs.State.{pollOf, countNode, seenOf, keepOf}
-use Rattle.state.specs.Consult.{consultOf}
-use Rattle.moves.specs.Order.{placeOf, order_at, childOf}
+use Rattle.state.specs.State.{poll_of, count_node, seen_of, keep_of}
+use Rattle.state.specs.Consult.{consult_of}
+use Rattle.moves.specs.Order.{place_of, order_at, child_of}
 use Rattle.carry.specs.declared.Args.{Args}
 use Rattle.carry.specs.declared.Here.{Here}
 use Rattle.carry.specs.declared.Loc.{Loc}
 use Rattle.carry.specs.declared.Turn.{Turn}
 use Rattle.carry.specs.Carry.{With, with}
-use Rattle.enter.specs.Enter.{hintPlace, withDepth, extended, extendOf, reverseFutile, reverseIf, cut_if, probeOf, drawIf, enterOf, deepensOf}
-use Rattle.turn.specs.Window.{countedOf, full_of, firstBest, againOf, insideOf, raiseIf, judgeOf}
-use Rattle.turn.specs.Prune.{futileOf, lateOf, reductionIf}
-use Rattle.leave.specs.Cutoff.{cutoffOf}
-use Rattle.leave.specs.Finish.{storedOf, endIf, finishIf, finishOf}
-use Rattle.visits.specs.Search.{Visit, captureOf, widenIf, againIf, reducedF, judged, futileIf, turnIf, nextIf, next_f, walkF, deepenIf, enteredF, depthIf, stopIf, visitF}
-use Rattle.minimax.specs.Minimax.{childAt, greatest, none, checked, end_of, ofChildren, ofDraw, ofDepth, depthAt, minimaxV}
+use Rattle.enter.specs.Enter.{hint_place, with_depth, extended, extend_of, reverse_futile, reverse_if, cut_if, probe_of, draw_if, enter_of, deepens_of}
+use Rattle.turn.specs.Window.{counted_of, full_of, first_best, again_of, inside_of, raise_if, judge_of}
+use Rattle.turn.specs.Prune.{futile_of, late_of, reduction_if}
+use Rattle.leave.specs.Cutoff.{cutoff_of}
+use Rattle.leave.specs.Finish.{stored_of, end_if, finish_if, finish_of}
+use Rattle.visits.specs.Search.{Visit, capture_of, widen_if, again_if, reduced_f, judged, futile_if, turn_if, next_if, next_f, walk_f, deepen_if, entered_f, depth_if, stop_if, visit_f}
+use Rattle.minimax.specs.Minimax.{child_at, greatest, none, checked, end_of, of_children, of_draw, of_depth, depth_at, minimax_v}
 use Rattle.truth.proofs.Closed.{Stopped, stays, back}
 use Rattle.truth.proofs.Keeps as keeps
 use Rattle.truth.proofs.Settled.{plain_of, Known, At, kid_at}
-use Rattle.truth.proofs.Ranges.{bestOf, zero_in, neg-z, greatest-off, end-in, end_is, minimax-in}
-use Rattle.truth.proofs.Tells.{Tells, Window, same-tells, neg-tells, neg-window, raised-window, null-window, null-tells, outside-tells}
+use Rattle.truth.proofs.Ranges.{best_of, zero_in, neg_z, greatest-off, end_in, end_is, minimax_in}
+use Rattle.truth.proofs.Tells.{Tells, Window, same_tells, neg_tells, neg_window, raised_window, null_window, null-tells, outside-tells}
 use Rattle.truth.proofs.TruthCaptures.{Truth, captures-ok}
 
 -- the rest of a walk
@@ -46,23 +46,23 @@ abbrev Go : Type 0
 Go = Loc → List ℕ → List ℤ → With Turn
 
 -- what a walk's last turn answers: the cutoff's score, else alpha
-abbrev pickZ : Bool → ℤ → ℤ → ℤ
-pickZ true a b = a
-pickZ false a b = b
+abbrev pick_z : Bool → ℤ → ℤ → ℤ
+pick_z true a b = a
+pick_z false a b = b
 
 abbrev result_of : Turn → ℤ
-result_of w = pickZ w.done w.loc.best w.loc.alpha
+result_of w = pick_z w.done w.loc.best w.loc.alpha
 
 -- the search's extension is the minimax's
 
-extended-is : (b : Bool) (d : ℕ) → extended b d ≡ checked b d
+extended_is : (b : Bool) (d : ℕ) → extended b d ≡ checked b d
 unfolding extended checked
-extended-is true d = refl
-extended-is false d = refl
+extended_is true d = refl
+extended_is false d = refl
 
-extend-is : (t : List ℕ) (a : Args) → extendOf t a ≡ withDepth a (depthAt t a.node a.depth)
-unfolding extendOf
-extend-is t a = ap (withDepth a) (extended-is (inCheck t a.node) a.depth)
+extend_is : (t : List ℕ) (a : Args) → extend_of t a ≡ with_depth a (depth_at t a.node a.depth)
+unfolding extend_of
+extend_is t a = ap (with_depth a) (extended_is (in_check t a.node) a.depth)
 
 module _ (n : ℕ) (set : Settings) (t : List ℕ) (ok : Known n set.max_ply t) where
   abbrev S : Settings
@@ -96,7 +96,7 @@ module _ (n : ℕ) (set : Settings) (t : List ℕ) (ok : Known n set.max_ply t) 
     below : off l.alpha < off h.beta
 
   point-window : (h : Here) (go : Go) (l : Loc) (alpha : ℤ) (m u : ℕ) → Point h go l alpha m u → Window n l.alpha h.beta
-  point-window h go l alpha m u p = raised-window n ok.infHigh alpha h.beta p.window l.alpha m p.is_max p.below
+  point-window h go l alpha m u p = raised_window n ok.inf_high alpha h.beta p.window l.alpha m p.is_max p.below
 
   -- one move: a child's answer, as the walk takes it
 
@@ -104,25 +104,25 @@ module _ (n : ℕ) (set : Settings) (t : List ℕ) (ok : Known n set.max_ply t) 
     done_ok
         : (b : Bool) (words : List ℕ) (hist : List ℤ) (l : Loc) (x : ℤ) (mv : ℕ) (s : State) (y v : ℕ)
         → b ≡ le_z h.beta x → Point h go l alpha m u → off l.alpha < off x → Tells n (off l.alpha) (off h.beta) (off x) y → v ≡ max (max m y) u
-        → Left (nextIf b t S h pl c i (with (record { done = b; loc = record { alpha = x; best = x; mv = mv; state = s } }) words hist) go).it alpha h.beta v
-    unfolding nextIf cutoffOf keepOf
+        → Left (next_if b t S h pl c i (with (record { done = b; loc = record { alpha = x; best = x; mv = mv; state = s } }) words hist) go).it alpha h.beta v
+    unfolding next_if cutoff_of keep_of
     done_ok true words hist l x mv s y v e p up te ev = λ _.
         let k = le_yes h.beta x (sym e) in
         let a = p.is_max in
         record { range = te.range; under = omega arith; over = omega arith }
     done_ok false words hist l x mv s y v e p up te ev =
-        let k = le_not n h.beta x ok.infHigh p.window.betaIn te.range (sym e) in
+        let k = le_not n h.beta x ok.inf_high p.window.beta_in te.range (sym e) in
         let a = p.is_max in
         p.rest _ words hist (max m y) v (omega arith) k ev
 
     raise-ok
         : (b : Bool) (words : List ℕ) (hist : List ℤ) (l : Loc) (x : ℤ) (mv : ℕ) (s : State) (y v : ℕ)
         → b ≡ lt_z l.alpha x → Point h go l alpha m u → Tells n (off l.alpha) (off h.beta) (off x) y → v ≡ max (max m y) u
-        → Left (next_f t S h pl c i (with (raiseIf b h l mv x s) words hist) go).it alpha h.beta v
-    unfolding raiseIf nextIf
+        → Left (next_f t S h pl c i (with (raise_if b h l mv x s) words hist) go).it alpha h.beta v
+    unfolding raise_if next_if
     raise-ok true words hist l x mv s y v e p te ev =
         let w = point-window h go l alpha m u p in
-        done_ok (le_z h.beta x) words hist l x mv s y v refl p (lt_yes n l.alpha x ok.infHigh w.alphaIn te.range (sym e)) te ev
+        done_ok (le_z h.beta x) words hist l x mv s y v refl p (lt_yes n l.alpha x ok.inf_high w.alpha_in te.range (sym e)) te ev
     raise-ok false words hist l x mv s y v e p te ev =
         let k = lt_not l.alpha x (sym e) in
         let a = p.is_max in
@@ -133,7 +133,7 @@ module _ (n : ℕ) (set : Settings) (t : List ℕ) (ok : Known n set.max_ply t) 
         : (l : Loc) (mv : ℕ) (r : With Out) (y v : ℕ) → Point h go l alpha m u
         → Tells n (off l.alpha) (off h.beta) (off (neg16 r.it.score)) y → v ≡ max (max m y) u
         → Left (next_f t S h pl c i (judged h l mv r) go).it alpha h.beta v
-    unfolding judgeOf
+    unfolding judge_of
     judge-ok l mv r y v p te ev = raise-ok _ r.words r.history l _ mv r.it.state y v refl p te ev
 
     -- if what a turn leads to is not stopped, the child's visit was not
@@ -142,7 +142,7 @@ module _ (n : ℕ) (set : Settings) (t : List ℕ) (ok : Known n set.max_ply t) 
     judged-back l mv r kg e =
         let j = judged h l mv r in
         back r.it.state (next_f t S h pl c i j go).it.loc.state
-        (λ q. keeps.next-q t S Stopped (stays S) j.it.done h pl c i j go kg (keeps.judge-q t S Stopped (stays S) h l mv r.it q)) e
+        (λ q. keeps.next_q t S Stopped (stays S) j.it.done h pl c i j go kg (keeps.judge_q t S Stopped (stays S) h l mv r.it q)) e
 
   -- a child's visit tells of the child's value y
   record KidOk (v : Visit) (c depth ply : ℕ) (y : ℤ) : Type 0 where
@@ -158,20 +158,20 @@ module _ (n : ℕ) (set : Settings) (t : List ℕ) (ok : Known n set.max_ply t) 
         → Left (next_f t S h pl c i (judged h l2 mv (v s words hist (full_of h l c))) go).it alpha h.beta w
     full-ok l l2 mv s words hist el p = λ e.
         let eo = ap off el in
-        let win = raised-window n ok.infHigh alpha h.beta p.window l.alpha m (sym eo ∙ p.is_max) (omega (arith, p.below)) in
+        let win = raised_window n ok.inf_high alpha h.beta p.window l.alpha m (sym eo ∙ p.is_max) (omega (arith, p.below)) in
         let r = v s words hist (full_of h l c) in
         let before = judged-back h pl c i go alpha m u l2 mv r p.keeps e in
-        let down = neg-window n ok.infHigh l.alpha h.beta win in
+        let down = neg_window n ok.inf_high l.alpha h.beta win in
         let told = kid.tells (1 - h.side) (neg16 h.beta) (neg16 l.alpha) s words hist down before in
-        let te = neg-tells n ok.infHigh l.alpha h.beta win r.it.score (off y) kid.in_range told in
+        let te = neg_tells n ok.inf_high l.alpha h.beta win r.it.score (off y) kid.in_range told in
         judge-ok h pl c i go alpha m u l2 mv r (65536 - off y) w p (rw el te) ew e
 
     -- after a search of the child in the null window, which answered r
     widen_ok
         : (b : Bool) (l : Loc) (mv : ℕ) (r : With Out) → b ≡ lt_z l.alpha (neg16 r.it.score) && lt_z (neg16 r.it.score) h.beta → Point h go l alpha m u
         → (r.it.state.stop ≡ false → Tells n (off l.alpha) (suc (off l.alpha)) (off (neg16 r.it.score)) (65536 - off y))
-        → Left (next_f t S h pl c i (judged h l mv (widenIf b v h l c r)) go).it alpha h.beta w
-    unfolding widenIf
+        → Left (next_f t S h pl c i (judged h l mv (widen_if b v h l c r)) go).it alpha h.beta w
+    unfolding widen_if
     widen_ok true l mv r eb p nu = full-ok l l mv r.it.state r.words r.history refl p
     widen_ok false l mv r eb p nu = λ e.
         let told = nu (judged-back h pl c i go alpha m u l mv r p.keeps e) in
@@ -181,19 +181,19 @@ module _ (n : ℕ) (set : Settings) (t : List ℕ) (ok : Known n set.max_ply t) 
     -- a move that is not the first: the null window, then perhaps the whole one
     other-ok
         : (l : Loc) (words : List ℕ) (hist : List ℤ) → Point h go l alpha m u
-        → Left (next_f t S h pl c i (futileIf false v t S h l c i words hist) go).it alpha h.beta w
-    unfolding futileIf reducedF reductionIf lateOf againIf againOf insideOf
+        → Left (next_f t S h pl c i (futile_if false v t S h l c i words hist) go).it alpha h.beta w
+    unfolding futile_if reduced_f reduction_if late_of again_if again_of inside_of
     other-ok l words hist p =
         let win = point-window h go l alpha m u p in
-        let down = null-window n ok.infHigh l.alpha h.beta win in
+        let down = null_window n ok.inf_high l.alpha h.beta win in
         rw (sub-zero (h.depth - 1)) (widen_ok _ l (move_of t c) _ refl p (λ e.
         let told = kid.tells (1 - h.side) (sub16 (neg16 l.alpha) (pos 1)) (neg16 l.alpha) l.state words hist down e in
-        null-tells n ok.infHigh l.alpha h.beta win _ (off y) kid.in_range told))
+        null-tells n ok.inf_high l.alpha h.beta win _ (off y) kid.in_range told))
 
     turn-ok
         : (b : Bool) (l : Loc) (words : List ℕ) (hist : List ℤ) → b ≡ false → Point h go l alpha m u
-        → Left (next_f t S h pl c i (turnIf b v t S h l c i words hist) go).it alpha h.beta w
-    unfolding turnIf futileOf
+        → Left (next_f t S h pl c i (turn_if b v t S h l c i words hist) go).it alpha h.beta w
+    unfolding turn_if futile_of
     turn-ok true l words hist e p = absurd (true≢false e)
     turn-ok false l words hist e p = other-ok l words hist p
 
@@ -201,20 +201,20 @@ module _ (n : ℕ) (set : Settings) (t : List ℕ) (ok : Known n set.max_ply t) 
 
   -- a node's children, by their values
   abbrev Kids : Visit → ℕ → ℕ → ℕ → (ℕ → ℤ) → Type 0
-  Kids v node depth ply f = (i : ℕ) → i < count_of t node → KidOk v (childAt t node i) (depth - 1) (ply + 1) (f i)
+  Kids v node depth ply f = (i : ℕ) → i < count_of t node → KidOk v (child_at t node i) (depth - 1) (ply + 1) (f i)
 
   walk-ok
       : (v : Visit) (h : Here) (f : ℕ → ℤ) (alpha : ℤ) → Window n alpha h.beta → KeepsV v → Kids v h.node h.depth h.ply f
-      → (m i : ℕ) → eqb i 0 ≡ false → i + m ≤ count_of t h.node → Rest alpha h.beta (bestOf none f m i) (walkF v t S h Nowhere m i)
-  unfolding walkF bestOf childOf order_at
+      → (m i : ℕ) → eqb i 0 ≡ false → i + m ≤ count_of t h.node → Rest alpha h.beta (best_of none f m i) (walk_f v t S h Nowhere m i)
+  unfolding walk_f best_of child_of order_at
   walk-ok v h f alpha win kv kids zero i ei le l words hist m w a lt ew = λ _.
-      let win2 = raised-window n ok.infHigh alpha h.beta win l.alpha m a lt in
-      record { range = win2.alphaIn; under = omega arith; over = omega arith }
+      let win2 = raised_window n ok.inf_high alpha h.beta win l.alpha m a lt in
+      record { range = win2.alpha_in; under = omega arith; over = omega arith }
   walk-ok v h f alpha win kv kids (suc j) i ei le l words hist m w a lt ew =
-      turn-ok v h Nowhere (first_of t h.node + i) i (walkF v t S h Nowhere j (i + 1)) (f i) alpha m (bestOf none f j (i + 1)) w
-      (kids i (omega arith)) (omega arith) (eqb i 0) (countedOf l) words hist ei (record {
+      turn-ok v h Nowhere (first_of t h.node + i) i (walk_f v t S h Nowhere j (i + 1)) (f i) alpha m (best_of none f j (i + 1)) w
+      (kids i (omega arith)) (omega arith) (eqb i 0) (counted_of l) words hist ei (record {
         rest = walk-ok v h f alpha win kv kids j (i + 1) (ne_eqb (i + 1) 0 (λ z. omega arith)) (omega arith);
-        keeps = keeps.walk-q t S Stopped (stays S) v h Nowhere j (i + 1) kv;
+        keeps = keeps.walk_q t S Stopped (stays S) v h Nowhere j (i + 1) kv;
         window = win;
         is_max = a;
         below = lt;
@@ -222,40 +222,40 @@ module _ (n : ℕ) (set : Settings) (t : List ℕ) (ok : Known n set.max_ply t) 
 
   -- where there are moves, the answer is what the walk leaves
 
-  end-not : (b : Bool) (h : Here) (l : Loc) (words : List ℕ) (alpha beta : ℤ) (v : ℕ) → b ≡ false → Left (record { done = false; loc = l }) alpha beta v → Told (endIf b t S h l words).it alpha beta v
-  unfolding endIf storedOf keepOf
+  end-not : (b : Bool) (h : Here) (l : Loc) (words : List ℕ) (alpha beta : ℤ) (v : ℕ) → b ≡ false → Left (record { done = false; loc = l }) alpha beta v → Told (end_if b t S h l words).it alpha beta v
+  unfolding end_if stored_of keep_of
   end-not true h l words alpha beta v e k = absurd (true≢false e)
   end-not false h l words alpha beta v e k = k
 
   finish-ok
       : (d : Bool) (h : Here) (l : Loc) (words : List ℕ) (alpha beta : ℤ) (v : ℕ) → eqb (count_of t h.node) 0 ≡ false
-      → Left (record { done = d; loc = l }) alpha beta v → Told (finishIf d t S h l words).it alpha beta v
-  unfolding finishIf
+      → Left (record { done = d; loc = l }) alpha beta v → Told (finish_if d t S h l words).it alpha beta v
+  unfolding finish_if
   finish-ok true h l words alpha beta v e k = k
   finish-ok false h l words alpha beta v e k = end-not _ h l words alpha beta v e k
 
   -- else the end of the game
-  end-ok : (b : Bool) (h : Here) (l : Loc) (words : List ℕ) (alpha beta : ℤ) → b ≡ true → At t h.node h.ply → Told (endIf b t S h l words).it alpha beta (off (end_of (inCheck t h.node) (pos n) h.ply))
-  unfolding endIf
+  end-ok : (b : Bool) (h : Here) (l : Loc) (words : List ℕ) (alpha beta : ℤ) → b ≡ true → At t h.node h.ply → Told (end_if b t S h l words).it alpha beta (off (end_of (in_check t h.node) (pos n) h.ply))
+  unfolding end_if
   end-ok true h l words alpha beta e p =
-      rw (end_is n set t ok (inCheck t h.node) h.node h.ply p) (λ _. same-tells n (off alpha) (off beta) _ (end-in n set t ok (inCheck t h.node) h.node h.ply p))
+      rw (end_is n set t ok (in_check t h.node) h.node h.ply p) (λ _. same_tells n (off alpha) (off beta) _ (end_in n set t ok (in_check t h.node) h.node h.ply p))
   end-ok false h l words alpha beta e p = absurd (false≢true e)
 
   -- a walk from its start: the first move has the whole window
   first-ok
       : (j : ℕ) (v : Visit) (h : Here) (f : ℕ → ℤ) (l : Loc) (words : List ℕ) (hist : List ℤ) (w : ℕ) → suc j ≡ count_of t h.node
-      → Window n l.alpha h.beta → KeepsV v → Kids v h.node h.depth h.ply f → w ≡ max (65536 - off (f 0)) (bestOf none f j 1)
-      → Left (walkF v t S h Nowhere (suc j) 0 l words hist).it l.alpha h.beta w
-  unfolding walkF turnIf childOf order_at
+      → Window n l.alpha h.beta → KeepsV v → Kids v h.node h.depth h.ply f → w ≡ max (65536 - off (f 0)) (best_of none f j 1)
+      → Left (walk_f v t S h Nowhere (suc j) 0 l words hist).it l.alpha h.beta w
+  unfolding walk_f turn_if child_of order_at
   first-ok j v h f l words hist w em win kv kids ew =
       let c = first_of t h.node + 0 in
-      let s = countNode l.state in
-      let r = v s words hist (full_of h (countedOf l) c) in
+      let s = count_node l.state in
+      let r = v s words hist (full_of h (counted_of l) c) in
       let o = win.order in
-      full-ok v h Nowhere c 0 (walkF v t S h Nowhere j (0 + 1)) (f 0) l.alpha 0 (bestOf none f j 1) w (kids 0 (omega arith)) (omega arith)
-      (countedOf l) (firstBest t (countedOf l) c r.it) (move_of t c) s words hist refl (record {
+      full-ok v h Nowhere c 0 (walk_f v t S h Nowhere j (0 + 1)) (f 0) l.alpha 0 (best_of none f j 1) w (kids 0 (omega arith)) (omega arith)
+      (counted_of l) (first_best t (counted_of l) c r.it) (move_of t c) s words hist refl (record {
         rest = walk-ok v h f l.alpha win kv kids j 1 refl (omega arith);
-        keeps = keeps.walk-q t S Stopped (stays S) v h Nowhere j 1 kv;
+        keeps = keeps.walk_q t S Stopped (stays S) v h Nowhere j 1 kv;
         window = win;
         is_max = omega arith;
         below = o;
@@ -264,14 +264,14 @@ module _ (n : ℕ) (set : Settings) (t : List ℕ) (ok : Known n set.max_ply t) 
   moves-ok
       : (m : ℕ) (v : Visit) (h : Here) (f : ℕ → ℤ) (l : Loc) (words : List ℕ) (hist : List ℤ) → m ≡ count_of t h.node → At t h.node h.ply
       → Window n l.alpha h.beta → KeepsV v → Kids v h.node h.depth h.ply f
-      → Told (finishOf t S h (walkF v t S h Nowhere m 0 l words hist)).it l.alpha h.beta (off (ofChildren m (end_of (inCheck t h.node) (pos n) h.ply) f))
-  unfolding walkF finishIf ofChildren
+      → Told (finish_of t S h (walk_f v t S h Nowhere m 0 l words hist)).it l.alpha h.beta (off (of_children m (end_of (in_check t h.node) (pos n) h.ply) f))
+  unfolding walk_f finish_if of_children
   moves-ok zero v h f l words hist em p win kv kids = end-ok _ h l words l.alpha h.beta (eq-eqb (count_of t h.node) 0 (sym em)) p
   moves-ok (suc j) v h f l words hist em p win kv kids =
       let i0 = (kids 0 (omega arith)).in_range in
-      let ni = neg-off n (f 0) ok.infHigh i0 in
-      let bi = greatest-off n ok.infHigh none f (neg_ℤ (f 0)) j 1 (neg-z n ok.infHigh (f 0) i0) (λ q z. (kids q (omega arith)).in_range) in
-      let w = walkF v t S h Nowhere (suc j) 0 l words hist in
+      let ni = neg_off n (f 0) ok.inf_high i0 in
+      let bi = greatest-off n ok.inf_high none f (neg_ℤ (f 0)) j 1 (neg_z n ok.inf_high (f 0) i0) (λ q z. (kids q (omega arith)).in_range) in
+      let w = walk_f v t S h Nowhere (suc j) 0 l words hist in
       finish-ok w.it.done h w.it.loc w.words l.alpha h.beta (off (greatest none f (neg_ℤ (f 0)) j 1)) (ne_eqb (count_of t h.node) 0 (λ z. omega arith))
       (first-ok j v h f l words hist (off (greatest none f (neg_ℤ (f 0)) j 1)) em win kv kids (omega arith))
 
@@ -285,42 +285,42 @@ module _ (n : ℕ) (set : Settings) (t : List ℕ) (ok : Known n set.max_ply t) 
 
   draw-ok
       : (b : Bool) (v : Visit) (f : ℕ → ℤ) (a : Args) (s : State) (words : List ℕ) (hist : List ℤ) → NodeOk v f a
-      → Told (enteredF (drawIf b S t words s a) v t S words hist).it a.alpha a.beta (off (ofDraw b S t a.node a.ply f))
-  unfolding drawIf probeOf seenOf consultOf cut_if reverseIf reverseFutile enteredF deepenIf deepensOf hintPlace placeOf ofDraw
-  draw-ok true v f a s words hist o = λ _. same-tells n (off a.alpha) (off a.beta) _ (zero_in n ok.infHigh)
+      → Told (entered_f (draw_if b S t words s a) v t S words hist).it a.alpha a.beta (off (of_draw b S t a.node a.ply f))
+  unfolding draw_if probe_of seen_of consult_of cut_if reverse_if reverse_futile entered_f deepen_if deepens_of hint_place place_of of_draw
+  draw-ok true v f a s words hist o = λ _. same_tells n (off a.alpha) (off a.beta) _ (zero_in n ok.inf_high)
   draw-ok false v f a s words hist o = moves-ok (count_of t a.node) v _ f _ words hist refl o.place o.window o.keeps o.kids
 
   depth-ok
       : (b : Bool) (k : ℕ) (v : Visit) (f : ℕ → ℤ) (a : Args) (s : State) (words : List ℕ) (hist : List ℤ) → NodeOk v f a
-      → Told (depthIf b k v t S s words hist a).it a.alpha a.beta (off (ofDepth b k S t a.node a.ply f))
-  unfolding depthIf ofDepth enterOf
-  depth-ok true k v f a s words hist o = captures-ok n set t ok k s words (captureOf a) o.place.in_tree o.window
-  depth-ok false k v f a s words hist o = draw-ok (isDraw t a.node) v f a s words hist o
+      → Told (depth_if b k v t S s words hist a).it a.alpha a.beta (off (of_depth b k S t a.node a.ply f))
+  unfolding depth_if of_depth enter_of
+  depth-ok true k v f a s words hist o = captures-ok n set t ok k s words (capture_of a) o.place.in_tree o.window
+  depth-ok false k v f a s words hist o = draw-ok (is_draw t a.node) v f a s words hist o
 
   stop-ok
       : (b : Bool) (k : ℕ) (v : Visit) (f : ℕ → ℤ) (a : Args) (s : State) (words : List ℕ) (hist : List ℤ) → b ≡ s.stop
-      → NodeOk v f (withDepth a (depthAt t a.node a.depth))
-      → Told (stopIf b k v t S s words hist a).it a.alpha a.beta (off (ofDepth (eqb (depthAt t a.node a.depth) 0) k S t a.node a.ply f))
-  unfolding stopIf
+      → NodeOk v f (with_depth a (depth_at t a.node a.depth))
+      → Told (stop_if b k v t S s words hist a).it a.alpha a.beta (off (of_depth (eqb (depth_at t a.node a.depth) 0) k S t a.node a.ply f))
+  unfolding stop_if
   stop-ok true k v f a s words hist e o = λ u. absurd (true≢false (e ∙ u))
-  stop-ok false k v f a s words hist e o = rw (extend-is t a) (depth-ok _ k v f (withDepth a (depthAt t a.node a.depth)) s words hist o)
+  stop-ok false k v f a s words hist e o = rw (extend_is t a) (depth-ok _ k v f (with_depth a (depth_at t a.node a.depth)) s words hist o)
 
   pub visit-ok
       : (k : ℕ) (s : State) (words : List ℕ) (hist : List ℤ) (a : Args) → At t a.node a.ply → Window n a.alpha a.beta
-      → Told (visitF k t S s words hist a).it a.alpha a.beta (off (minimaxV k S t a.node (depthAt t a.node a.depth) a.ply))
-  unfolding visitF minimaxV
-  visit-ok zero s words hist a p w = λ _. same-tells n (off a.alpha) (off a.beta) _ (zero_in n ok.infHigh)
+      → Told (visit_f k t S s words hist a).it a.alpha a.beta (off (minimax_v k S t a.node (depth_at t a.node a.depth) a.ply))
+  unfolding visit_f minimax_v
+  visit-ok zero s words hist a p w = λ _. same_tells n (off a.alpha) (off a.beta) _ (zero_in n ok.inf_high)
   visit-ok (suc k) s words hist a p w =
-      stop-ok _ (suc k) (visitF k t S) _ a (pollOf set.limit s) words hist refl (record {
+      stop-ok _ (suc k) (visit_f k t S) _ a (poll_of set.limit s) words hist refl (record {
         place = p;
         window = w;
-        keeps = keeps.visit-q t S Stopped (stays S) k;
+        keeps = keeps.visit_q t S Stopped (stays S) k;
         kids = λ i l.
-            let c = childAt t a.node i in
+            let c = child_at t a.node i in
             let q = kid_at n set.max_ply t ok a.node i a.ply p l in
-            let d = depthAt t a.node a.depth - 1 in
+            let d = depth_at t a.node a.depth - 1 in
             record {
-              in_range = minimax-in n set t ok k c (depthAt t c d) (a.ply + 1) q;
+              in_range = minimax_in n set t ok k c (depth_at t c d) (a.ply + 1) q;
               tells = λ side alpha beta s words hist w.
                   visit-ok k s words hist (record { node = c; side = side; alpha = alpha; beta = beta; depth = d; ply = a.ply + 1 }) q w;
             };

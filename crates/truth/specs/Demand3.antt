@@ -8,7 +8,7 @@ use Rattle.state.specs.declared.Out.{Out}
 use Rattle.state.specs.Accepted.{AcceptedBy}
 use Rattle.carry.specs.declared.Args.{Args}
 use Rattle.visits.specs.Reach.{Reach, need}
-use Rattle.visits.specs.Search.{visitF}
+use Rattle.visits.specs.Search.{visit_f}
 use Rattle.minimax.specs.Minimax.{minimax}
 
 -- what a score found between alpha and beta says of a value: strictly inside it is that value, at or below alpha it is at least that value,
@@ -18,27 +18,27 @@ pub record Tells3 (alpha beta score value : ℤ) : Type 0 where
   pub low : le_z score alpha ≡ true → le_z value score ≡ true
   pub high : le_z beta score ≡ true → le_z score value ≡ true
 
--- 01, Visits: "The six switches: table, delta, reverse futility, futility, late-move, inner deepening." All off.
+-- 01, Visits: "The six switches: table, delta, reverse futility, futility, late_move, inner deepening." All off.
 pub record Plain (set : Settings) : Type 0 where
   pub table : set.table ≡ false
   pub delta : set.delta ≡ false
-  pub reverse-futility : set.reverse_futility ≡ false
+  pub reverse_futility : set.reverse_futility ≡ false
   pub futility : set.futility ≡ false
-  pub late-move : set.late_move ≡ false
-  pub inner-deepening : set.inner_deepening ≡ false
+  pub late_move : set.late_move ≡ false
+  pub inner_deepening : set.inner_deepening ≡ false
 
 -- INF 1,000 to 30,000, MAX_PLY 32 to 128
 pub record InRange (set : Settings) : Type 0 where
-  pub inf-least : le_z (pos 1000) set.inf ≡ true
-  pub inf-most : le_z set.inf (pos 30000) ≡ true
-  pub ply-least : 32 ≤ set.max_ply
-  pub ply-most : set.max_ply ≤ 128
+  pub inf_least : le_z (pos 1000) set.inf ≡ true
+  pub inf_most : le_z set.inf (pos 30000) ≡ true
+  pub ply_least : 32 ≤ set.max_ply
+  pub ply_most : set.max_ply ≤ 128
 
 -- -INF <= alpha < beta <= INF
 pub record Windowed (inf alpha beta : ℤ) : Type 0 where
-  pub alpha-least : le_z (neg_ℤ inf) alpha ≡ true
+  pub alpha_least : le_z (neg_ℤ inf) alpha ≡ true
   pub order : lt_z alpha beta ≡ true
-  pub beta-most : le_z beta inf ≡ true
+  pub beta_most : le_z beta inf ≡ true
 
 -- of every tree that is accepted, from every state, table and history, at every limit
 abbrev pub Demand3 : Type 0
@@ -46,8 +46,8 @@ Demand3 =
     (set : Settings) (t : List ℕ) → Plain set → InRange set → AcceptedBy set t
     → (a : Args) → Reach t a → Windowed set.inf a.alpha a.beta
     → (k : ℕ) (s : State) (words : List ℕ) (history : List ℤ) → need t a.node a.depth < k
-    → (visitF k t set s words history a).it.state.stop ≡ false
-    → Tells3 a.alpha a.beta (visitF k t set s words history a).it.score (minimax set t a.node a.depth a.ply)
+    → (visit_f k t set s words history a).it.state.stop ≡ false
+    → Tells3 a.alpha a.beta (visit_f k t set s words history a).it.score (minimax set t a.node a.depth a.ply)
 
 -- what an answer of the node search tells: with all switches off, settings in range and an ordered window, unless it was stopped
 abbrev pub Told : Settings → List ℕ → Args → Out → Type 0

@@ -5,6 +5,6 @@ use native.Mathlib.Omega.{arith}
 use Rattle.turn.specs.Prune.{one}
 
 -- a test counts as one at most
-pub one-most : (b : Bool) → one b ≤ 1
-one-most true = omega arith
-one-most false = omega arith
+pub one_most : (b : Bool) → one b ≤ 1
+one_most true = omega arith
+one_most false = omega arith

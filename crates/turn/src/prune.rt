@@ -1,7 +1,7 @@
 // Futility, and the reductions of late moves.
 ghost use Rattle.std.specs.Prelude.{◌≡◌, ◌+◌, ◌-◌, ◌≤◌, ◌<◌, min};
-ghost use Rattle.tree.specs.Blocks.{Blocked, nodesOf};
-ghost use Rattle.turn.specs.Prune.{one, futileOf, lateOf, reductionAt};
+ghost use Rattle.tree.specs.Blocks.{Blocked, nodes_of};
+ghost use Rattle.turn.specs.Prune.{one, futile_of, late_of, reduction_at};
 
 use carry::{Here, Loc};
 use record::node;
@@ -11,9 +11,9 @@ use state::Settings;
 // Whether a quiet later move can't reach alpha.
 pub fn futile(tree: &[u8], set: Settings, here: Here, loc: Loc, c: usize) -> bool
     requires blocked { Blocked tree.now }
-    requires node_bound { here.node < nodesOf tree.now }
-    requires c_bound { c < nodesOf tree.now }
-    ensures { result ≡ futileOf tree.now set here loc c }
+    requires node_bound { here.node < nodes_of tree.now }
+    requires c_bound { c < nodes_of tree.now }
+    ensures { result ≡ futile_of tree.now set here loc c }
 {
     let k = here.node;
     if !set.futility {
@@ -47,9 +47,9 @@ fn unit(b: bool) -> u8
 // Whether a move is late and quiet: i moves were tried before it.
 fn late(tree: &[u8], set: Settings, here: Here, c: usize, i: usize) -> bool
     requires blocked { Blocked tree.now }
-    requires c_bound { c < nodesOf tree.now }
+    requires c_bound { c < nodes_of tree.now }
     requires i_bound { i < 63 }
-    ensures { result ≡ lateOf tree.now set here c i }
+    ensures { result ≡ late_of tree.now set here c i }
 {
     if !set.late_move {
         return false;
@@ -80,11 +80,11 @@ fn held(r: u8, less: u8, most: u8) -> u8
 // By how much a late quiet move's depth is reduced.
 pub fn reduction(tree: &[u8], set: Settings, here: Here, c: usize, i: usize) -> u8
     requires blocked { Blocked tree.now }
-    requires node_bound { here.node < nodesOf tree.now }
-    requires c_bound { c < nodesOf tree.now }
+    requires node_bound { here.node < nodes_of tree.now }
+    requires c_bound { c < nodes_of tree.now }
     requires le_depth { 1 ≤ here.depth }
     requires i_bound { i < 63 }
-    ensures { result ≡ reductionAt tree.now set here c i }
+    ensures { result ≡ reduction_at tree.now set here c i }
 {
     if !late(tree, set, here, c, i) {
         return 0;

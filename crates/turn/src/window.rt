@@ -2,8 +2,8 @@
 ghost use Rattle.std.specs.Prelude.{◌≡◌, ◌+◌, ◌≤◌, ◌<◌, ◌^◌};
 ghost use Rattle.std.specs.Int.Signed.{lt_z};
 ghost use Rattle.score.specs.Wrap.{neg16};
-ghost use Rattle.tree.specs.Blocks.{Blocked, nodesOf};
-ghost use Rattle.turn.specs.Window.{unfinished, countedOf, full_of, nullOf, firstBest, againOf, insideOf, judgeOf};
+ghost use Rattle.tree.specs.Blocks.{Blocked, nodes_of};
+ghost use Rattle.turn.specs.Window.{unfinished, counted_of, full_of, null_of, first_best, again_of, inside_of, judge_of};
 
 use carry::{Args, Here, Loc, Turn};
 use record::node;
@@ -22,7 +22,7 @@ pub fn unfinished(loc: Loc) -> Turn
 
 // The move is counted.
 pub fn counted(loc: Loc) -> Loc
-    ensures { result ≡ countedOf loc }
+    ensures { result ≡ counted_of loc }
 {
     let s = loc.state;
     let n = s.count_node();
@@ -56,7 +56,7 @@ pub fn null(here: Here, loc: Loc, c: usize, d: u8) -> Args
     requires side_bound { here.side ≤ 1 }
     requires d_bound { 1 + d ≤ here.depth }
     requires ply_bound { here.ply + 1 < 2 ^ 64 }
-    ensures { result ≡ nullOf here loc c d }
+    ensures { result ≡ null_of here loc c d }
 {
     let beta = neg16(loc.alpha);
     Args {
@@ -72,8 +72,8 @@ pub fn null(here: Here, loc: Loc, c: usize, d: u8) -> Args
 // The first move's score and move are the best so far, whatever they are.
 pub fn first(tree: &[u8], loc: Loc, c: usize, r: Out) -> Loc
     requires blocked { Blocked tree.now }
-    requires c_bound { c < nodesOf tree.now }
-    ensures { result ≡ firstBest tree.now loc c r }
+    requires c_bound { c < nodes_of tree.now }
+    ensures { result ≡ first_best tree.now loc c r }
 {
     let s = loc.state;
     Loc {
@@ -107,7 +107,7 @@ fn under(score: i16, beta: i16) -> bool
 
 // Whether a reduced visit beat alpha.
 pub fn again(loc: Loc, d: u8, r: Out) -> bool
-    ensures { result ≡ againOf loc d r }
+    ensures { result ≡ again_of loc d r }
 {
     if d == 0 {
         return false;
@@ -117,7 +117,7 @@ pub fn again(loc: Loc, d: u8, r: Out) -> bool
 
 // Whether a null window's score lies strictly inside the window.
 pub fn inside(here: Here, loc: Loc, r: Out) -> bool
-    ensures { result ≡ insideOf here loc r }
+    ensures { result ≡ inside_of here loc r }
 {
     if beats(loc.alpha, r.score) {
         return under(r.score, here.beta);
@@ -127,7 +127,7 @@ pub fn inside(here: Here, loc: Loc, r: Out) -> bool
 
 // What a child's answer makes of the walk: nothing, a higher alpha, or a cutoff.
 pub fn judge(here: Here, loc: Loc, mv: u16, r: Out) -> Turn
-    ensures { result ≡ judgeOf here loc mv r }
+    ensures { result ≡ judge_of here loc mv r }
 {
     let score = neg16(r.score);
     let s = r.state;

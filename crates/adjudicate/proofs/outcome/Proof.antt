@@ -2,7 +2,7 @@
 use mathlib.Core.Path.{sym, ap, ◌∙◌}
 use Rattle.adjudicate.specs.declared.Step.TheVariants.{More}
 use mir.Facts.{to_z-of_z}
-use Rattle.adjudicate.proofs.Reading.{step-more, step-failed, step_end}
+use Rattle.adjudicate.proofs.Reading.{step_more, step_failed, step_end}
 use borrow.Author.Rules.{rules}
 use Rattle.adjudicate.proofs.outcome.Statement.{statement}
 use Rattle.adjudicate.proofs.outcome.Tie as tie
@@ -14,10 +14,10 @@ returns : tie.Need-returns
 returns c =
     let s = c.before.before.before in
     let z = to_z-of_z s.ranges.got in
-    ap More (simp z at c.count.ensures.1) ∙ sym (step-more _ _ (simp z at c.before.if1.true))
+    ap More (simp z at c.count.ensures.1) ∙ sym (step_more _ _ (simp z at c.before.if1.true))
 
 returns-2 : tie.Need-returns-2
-returns-2 c = sym (step-failed _ _ (simp (to_z-of_z c.before.before.before.ranges.got) at c.if2.true))
+returns-2 c = sym (step_failed _ _ (simp (to_z-of_z c.before.before.before.ranges.got) at c.if2.true))
 
 returns-3 : tie.Need-returns-3
 returns-3 c =

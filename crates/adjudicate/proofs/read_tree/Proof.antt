@@ -7,7 +7,7 @@ use borrow.Author.Rules.{rules}
 use borrow.Rule.Slice.PartMut.{put_mid}
 use lib.ListN.{length}
 use Rattle.io.proofs.Counting.{prefix_len_of_le}
-use Rattle.adjudicate.proofs.Reading.{step-takes}
+use Rattle.adjudicate.proofs.Reading.{step_takes}
 use Rattle.adjudicate.proofs.read_tree.Statement.{statement}
 use Rattle.adjudicate.proofs.read_tree.Tie as tie
 
@@ -53,7 +53,7 @@ module _ (c : tie.After-known-told invariant-loop decreases-loop) where
   filled = put_mid c.before.before.before.before.before.before.before.before.before.before.before.loop.done (length c.before.before.before.before.before.before.before.before.before.before.before.loop.buf - c.before.before.before.before.before.before.before.before.before.before.before.loop.done) c.before.before.before.before.before.before.before.before.before.before.before.loop.buf c.before.before.before.before.before.before.before.before.read.new.1.0
 
   took : (0 < c.before.n.given.0.0) × (c.before.before.before.before.before.before.before.before.before.before.before.loop.done + c.before.n.given.0.0 ≤ length filled)
-  took = step-takes _ filled c.before.before.before.before.before.before.before.before.before.before.before.loop.done _ (sym c.before.before.before.outcome.ensures ∙ c.before.n.given.1) (search rules)
+  took = step_takes _ filled c.before.before.before.before.before.before.before.before.before.before.before.loop.done _ (sym c.before.before.before.outcome.ensures ∙ c.before.n.given.1) (search rules)
 
 add_done : tie.Need-overflow-add-done invariant-loop decreases-loop
 add_done c = let t = took c in search rules

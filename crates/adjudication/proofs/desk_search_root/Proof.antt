@@ -5,7 +5,7 @@ use lib.IntN.{ℤ}
 use mir.Facts.{to_z-of_z}
 use mir.Syntax.{w16}
 use mir.Val.{SFits}
-use Rattle.adjudication.specs.Calls.{told, toldOf}
+use Rattle.adjudication.specs.Calls.{told, told_of}
 use Rattle.adjudication.proofs.desk_search_root.Statement.{statement}
 use Rattle.adjudication.proofs.desk_search_root.Tie as tie
 
@@ -33,7 +33,7 @@ returns c =
     let s = d.before.before.before.before.before.before.before in
     let r = d.search-root.result in
     ap (λ (z : ℤ). told r.refusal z r.mv r.nodes d.search-root.new.1.0 d.search-root.new.1.1.0) (to_z-of_z (score-fits d))
-    ∙ (simp (d.before.before.settings.ensures, d.before.fresh.ensures, to_z-of_z s.ranges.end) at (ap toldOf d.search-root.ensures))
+    ∙ (simp (d.before.before.settings.ensures, d.before.fresh.ensures, to_z-of_z s.ranges.end) at (ap told_of d.search-root.ensures))
 
 pub desk-search-root-spec : {M : Type 1} → statement M
 desk-search-root-spec =

@@ -3,7 +3,7 @@ use borrow.Author.Rules.{rules}
 use mir.Syntax.{w16}
 use mir.Val.{SFits}
 use mir.Facts.{to_z-of_z}
-use Rattle.capture_steps.specs.Step.{boundIf}
+use Rattle.capture_steps.specs.Step.{bound_if}
 use Rattle.capture_steps.proofs.bound_of.Statement.{statement}
 use Rattle.capture_steps.proofs.bound_of.Tie as tie
 
@@ -14,13 +14,13 @@ alpha-fits : (c : tie.Start) → SFits w16 c.args.loc.alpha
 alpha-fits c = search rules
 
 returns : tie.Need-returns
-unfolding boundIf
+unfolding bound_if
 returns c =
     let s = c.before.before.before.before.before in
     simp (simp (to_z-of_z (old-fits s), to_z-of_z (alpha-fits s)) at c.if1.true)
 
 returns-2 : tie.Need-returns-2
-unfolding boundIf
+unfolding bound_if
 returns-2 c =
     let s = c.before.before.before.before.before in
     simp (simp (to_z-of_z (old-fits s), to_z-of_z (alpha-fits s)) at c.if1.false)

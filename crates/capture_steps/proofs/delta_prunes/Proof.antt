@@ -3,7 +3,7 @@ use borrow.Author.Rules.{rules}
 use mir.Syntax.{w16}
 use mir.Val.{SFits}
 use mir.Facts.{to_z-of_z}
-use Rattle.capture_steps.specs.Step.{deltaPrunes}
+use Rattle.capture_steps.specs.Step.{delta_prunes}
 use Rattle.capture_steps.proofs.delta_prunes.Statement.{statement}
 use Rattle.capture_steps.proofs.delta_prunes.Tie as tie
 
@@ -14,7 +14,7 @@ sub16-requires : tie.Need-sub16-requires
 sub16-requires c κs = search rules
 
 returns : tie.Need-returns
-unfolding deltaPrunes
+unfolding delta_prunes
 returns c =
     let s = c.before.before.before in
     let f : SFits w16 c.sub16.result = search rules in
@@ -22,7 +22,7 @@ returns c =
     simp (to_z-of_z s.ranges.eval, to_z-of_z f) (rw (e, c.before.before.if1.true))
 
 returns-2 : tie.Need-returns-2
-unfolding deltaPrunes
+unfolding delta_prunes
 returns-2 c = simp c.if1.false
 
 pub delta-prunes-spec : {M : Type 1} → statement M

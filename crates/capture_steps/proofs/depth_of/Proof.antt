@@ -7,7 +7,7 @@ use lib.IntN.{pos, neg_ℤ, nat_abs, ◌-ℤ◌, +ℤ_idl}
 use mir.Syntax.{w8}
 use mir.Val.{SFits, to_z}
 use mir.Facts.{to_z-of_z, to_z_pos}
-use Rattle.score.proofs.Diff.{abs_neg, fits-abs}
+use Rattle.score.proofs.Diff.{abs_neg, fits_abs}
 use Rattle.capture_steps.proofs.depth_of.Statement.{statement}
 use Rattle.capture_steps.proofs.depth_of.Tie as tie
 
@@ -19,7 +19,7 @@ module _ (c : tie.Start) where
   negated = +ℤ_idl (neg_ℤ (pos c.args.below))
 
   small : SFits w8 (neg_ℤ (pos c.args.below))
-  small = fits-abs w8 (neg_ℤ (pos c.args.below)) (omega (arith, abs_neg (pos c.args.below)))
+  small = fits_abs w8 (neg_ℤ (pos c.args.below)) (omega (arith, abs_neg (pos c.args.below)))
 
 cast-result : tie.Need-overflow-cast-result
 cast-result c = search rules

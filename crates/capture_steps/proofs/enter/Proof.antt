@@ -5,11 +5,11 @@ use lib.IntN.{ℤ}
 use mir.Syntax.{w16}
 use mir.Val.{SFits}
 use mir.Facts.{to_z-of_z}
-use Rattle.tree.proofs.Blocked.{record-in}
-use Rattle.record.specs.Node.{evalOf}
-use Rattle.capture_steps.specs.Step.{standPat}
+use Rattle.tree.proofs.Blocked.{record_in}
+use Rattle.record.specs.Node.{eval_of}
+use Rattle.capture_steps.specs.Step.{stand_pat}
 use Rattle.capture_steps.specs.declared.Entered.TheVariants.{Answer}
-use Rattle.capture_steps.proofs.Steps.{enter-stop, enter-pat, enter-on}
+use Rattle.capture_steps.proofs.Steps.{enter_stop, enter_pat, enter_on}
 use Rattle.capture_steps.proofs.enter.Statement.{statement}
 use Rattle.capture_steps.proofs.enter.Tie as tie
 
@@ -24,10 +24,10 @@ returns c =
     let p = c.before.before in
     let t = p.before.before.before in
     ap Answer c.answer.ensures
-    ∙ enter-stop t.args.set t.args.tree.now t.args.words.now t.args.st p.poll.result t.args.a p.poll.ensures c.before.if1.true
+    ∙ enter_stop t.args.set t.args.tree.now t.args.words.now t.args.st p.poll.result t.args.a p.poll.ensures c.before.if1.true
 
 evaluation-requires : tie.Need-evaluation-requires
-evaluation-requires c κs = let s = c.before.before.before.before in record-in s.args.tree.now s.requires.0 s.args.a.node s.requires.1.0
+evaluation-requires c κs = let s = c.before.before.before.before in record_in s.args.tree.now s.requires.0 s.args.a.node s.requires.1.0
 
 stand-pat-requires : tie.Need-stand-pat-requires
 stand-pat-requires c κs = search rules
@@ -36,10 +36,10 @@ module _ (c : tie.After-stand-pat) where
   abbrev start : tie.Start
   start = c.before.before.before.before.before.before
 
-  patted : c.stand-pat.result ≡ standPat start.args.set (evalOf start.args.tree.now start.args.a.node) start.args.a
+  patted : c.stand-pat.result ≡ stand_pat start.args.set (eval_of start.args.tree.now start.args.a.node) start.args.a
   patted =
       let f : SFits w16 c.before.evaluation.result = search rules in
-      (simp (to_z-of_z f) at c.stand-pat.ensures) ∙ ap (λ (x : ℤ). standPat start.args.set x start.args.a) c.before.evaluation.ensures
+      (simp (to_z-of_z f) at c.stand-pat.ensures) ∙ ap (λ (x : ℤ). stand_pat start.args.set x start.args.a) c.before.evaluation.ensures
 
 answer-requires-2 : tie.Need-answer-requires-2
 answer-requires-2 c κs = search rules
@@ -51,7 +51,7 @@ returns-2 c =
     let p = k.before.before.before in
     let f : SFits w16 k.stand-pat.result.alpha = search rules in
     ap Answer (simp (to_z-of_z f) at c.answer2.ensures)
-    ∙ enter-pat t.args.set t.args.tree.now t.args.words.now t.args.st p.poll.result t.args.a p.poll.ensures k.before.before.if1.false _ (patted k) c.before.before.if2.true
+    ∙ enter_pat t.args.set t.args.tree.now t.args.words.now t.args.st p.poll.result t.args.a p.poll.ensures k.before.before.if1.false _ (patted k) c.before.before.if2.true
 
 probe-requires : tie.Need-probe-requires
 probe-requires c κs = search rules
@@ -62,7 +62,7 @@ returns-3 c =
     let t = start k in
     let p = k.before.before.before in
     c.probe.ensures
-    ∙ enter-on t.args.set t.args.tree.now t.args.words.now t.args.st p.poll.result t.args.a p.poll.ensures k.before.before.if1.false _ (patted k) c.before.if2.false
+    ∙ enter_on t.args.set t.args.tree.now t.args.words.now t.args.st p.poll.result t.args.a p.poll.ensures k.before.before.if1.false _ (patted k) c.before.if2.false
 
 pub enter_spec : {M : Type 1} → statement M
 enter_spec =

@@ -8,10 +8,10 @@ use mir.Val.{SFits}
 use mir.Facts.{to_z-of_z}
 use Rattle.score.specs.Wrap.{neg16}
 use Rattle.transposition.specs.declared.Bound.TheVariants.{Lower}
-use Rattle.tree.proofs.Blocked.{record-in}
-use Rattle.state.specs.State.{over, keepOf}
+use Rattle.tree.proofs.Blocked.{record_in}
+use Rattle.state.specs.State.{over, keep_of}
 use Rattle.capture_steps.specs.declared.Turn.{Turn}
-use Rattle.capture_steps.proofs.Steps.{judge-low, judge-in, judge-cut}
+use Rattle.capture_steps.proofs.Steps.{judge_low, judge_in, judge_cut}
 use Rattle.capture_steps.proofs.judge.Statement.{statement}
 use Rattle.capture_steps.proofs.judge.Tie as tie
 
@@ -45,11 +45,11 @@ returns c =
     let n = c.before.before.before.before.before.before in
     let s = start n in
     ap (λ (x : Turn). over x s.args.words.now) (simp (to_z-of_z (alpha-fits s)) at c.unfinished.ensures)
-    ∙ judge-low s.args.set s.args.tree.now s.args.words.now s.args.here s.args.loc s.args.c s.args.r n.neg16.result (negated n)
+    ∙ judge_low s.args.set s.args.tree.now s.args.words.now s.args.here s.args.loc s.args.c s.args.r n.neg16.result (negated n)
     (simp (to_z-of_z (fits n), to_z-of_z (alpha-fits s)) at c.before.before.if1.true)
 
 move-to-requires : tie.Need-move-to-requires
-move-to-requires c κs = let s = start c.before.before.before.before in record-in s.args.tree.now s.pre.0 s.args.c s.pre.1.1.0
+move-to-requires c κs = let s = start c.before.before.before.before in record_in s.args.tree.now s.pre.0 s.args.c s.pre.1.1.0
 
 unfinished-requires-2 : tie.Need-unfinished-requires-2
 unfinished-requires-2 c κs = search rules
@@ -60,12 +60,12 @@ returns-2 c =
     let n = m.before.before.before.before.before in
     let s = start n in
     ap (λ (x : Turn). over x s.args.words.now) (simp (to_z-of_z (fits n)) at c.unfinished2.ensures)
-    ∙ judge-in s.args.set s.args.tree.now s.args.words.now s.args.here s.args.loc s.args.c s.args.r n.neg16.result (negated n)
+    ∙ judge_in s.args.set s.args.tree.now s.args.words.now s.args.here s.args.loc s.args.c s.args.r n.neg16.result (negated n)
     (simp (to_z-of_z (fits n), to_z-of_z (alpha-fits s)) at m.before.if1.false) m.move-to.result m.move-to.ensures
     (simp (to_z-of_z (fits n), to_z-of_z (beta-fits s)) at c.before.if2.true)
 
 hash-requires : tie.Need-hash-requires
-hash-requires c κs = let s = start c.before.before.before.before.before.before.before.before in record-in s.args.tree.now s.pre.0 s.args.here.node s.pre.1.0
+hash-requires c κs = let s = start c.before.before.before.before.before.before.before.before in record_in s.args.tree.now s.pre.0 s.args.here.node s.pre.1.0
 
 depth-of-requires : tie.Need-depth-of-requires
 depth-of-requires c κs = (start c.before.before.before.before.before.before.before.before.before.before).pre.1.1.1.1
@@ -87,11 +87,11 @@ returns-3 c =
     let fd : SFits w8 d.depth-of.result = search rules in
     let kept = simp (to_z-of_z fd, to_z-of_z (fits n)) at k.keep.ensures in
     simp (to_z-of_z (fits n))
-    (judge-cut s.args.set s.args.tree.now s.args.words.now s.args.here s.args.loc s.args.c s.args.r n.neg16.result (negated n)
+    (judge_cut s.args.set s.args.tree.now s.args.words.now s.args.here s.args.loc s.args.c s.args.r n.neg16.result (negated n)
     (simp (to_z-of_z (fits n), to_z-of_z (alpha-fits s)) at m.before.if1.false) m.move-to.result m.move-to.ensures
     (simp (to_z-of_z (fits n), to_z-of_z (beta-fits s)) at h.before.if2.false) _
     (kept
-    ∙ ap₂ (λ (x : ℕ) (y : ℤ). keepOf s.args.set.table s.args.words.now s.args.r.state x y n.neg16.result m.move-to.result Lower) h.hash.ensures d.depth-of.ensures))
+    ∙ ap₂ (λ (x : ℕ) (y : ℤ). keep_of s.args.set.table s.args.words.now s.args.r.state x y n.neg16.result m.move-to.result Lower) h.hash.ensures d.depth-of.ensures))
 
 pub judge-spec : {M : Type 1} → statement M
 judge-spec =

@@ -7,12 +7,12 @@ use mir.Syntax.{w8, w16}
 use mir.Val.{SFits}
 use mir.Facts.{to_z-of_z}
 use Rattle.transposition.specs.declared.Bound.{Bound}
-use Rattle.tree.proofs.Blocked.{record-in}
-use Rattle.record.specs.Node.{hashOf}
+use Rattle.tree.proofs.Blocked.{record_in}
+use Rattle.record.specs.Node.{hash_of}
 use Rattle.state.specs.declared.Out.{Out}
-use Rattle.state.specs.State.{over, keepOf}
-use Rattle.capture_steps.specs.Step.{depth_of, keptWith}
-use Rattle.capture_steps.proofs.Steps.{store-none, store_move}
+use Rattle.state.specs.State.{over, keep_of}
+use Rattle.capture_steps.specs.Step.{depth_of, kept_with}
+use Rattle.capture_steps.proofs.Steps.{store_none, store_move}
 use Rattle.capture_steps.proofs.store_alpha.Statement.{statement}
 use Rattle.capture_steps.proofs.store_alpha.Tie as tie
 
@@ -26,10 +26,10 @@ returns : tie.Need-returns
 returns c =
     let s = c.before.before.before.before.before.before.before in
     ap (λ (x : Out). over x s.args.words.now) (simp (to_z-of_z (alpha-fits s)) at c.answer.ensures)
-    ∙ store-none s.args.tree.now s.args.set s.args.here s.args.loc s.args.words.now c.before.before.if1.true
+    ∙ store_none s.args.tree.now s.args.set s.args.here s.args.loc s.args.words.now c.before.before.if1.true
 
 hash-requires : tie.Need-hash-requires
-hash-requires c κs = let s = c.before.before.before.before.before in record-in s.args.tree.now s.requires.0 s.args.here.node s.requires.1.0
+hash-requires c κs = let s = c.before.before.before.before.before in record_in s.args.tree.now s.requires.0 s.args.here.node s.requires.1.0
 
 bound-of-requires : tie.Need-bound-of-requires
 bound-of-requires c κs = search rules
@@ -58,8 +58,8 @@ returns-2 c =
     ap (λ (x : Out). over x k.keep.new.1.0) (simp (to_z-of_z (alpha-fits s)) at c.answer2.ensures)
     ∙ store_move s.args.tree.now s.args.set s.args.here s.args.loc s.args.words.now h.before.if1.false _
     (kept
-    ∙ ap₂ (λ (x : ℕ) (y : ℤ). keepOf s.args.set.table s.args.words.now s.args.loc.state x y s.args.loc.alpha s.args.loc.mv e.bound_of.result) h.hash.ensures d.depth-of.ensures
-    ∙ ap (keepOf s.args.set.table s.args.words.now s.args.loc.state (hashOf s.args.tree.now s.args.here.node) (depth_of s.args.here.below) s.args.loc.alpha s.args.loc.mv) e.bound_of.ensures)
+    ∙ ap₂ (λ (x : ℕ) (y : ℤ). keep_of s.args.set.table s.args.words.now s.args.loc.state x y s.args.loc.alpha s.args.loc.mv e.bound_of.result) h.hash.ensures d.depth-of.ensures
+    ∙ ap (keep_of s.args.set.table s.args.words.now s.args.loc.state (hash_of s.args.tree.now s.args.here.node) (depth_of s.args.here.below) s.args.loc.alpha s.args.loc.mv) e.bound_of.ensures)
 
 pub store-alpha-spec : {M : Type 1} → statement M
 store-alpha-spec =

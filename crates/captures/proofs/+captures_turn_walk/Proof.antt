@@ -6,15 +6,15 @@ use native.Mathlib.Nat.{sub-zero}
 use native.Mathlib.Omega.{arith}
 use borrow.Author.Rules.{rules}
 use lib.ListN.{length}
-use Rattle.tree.specs.Blocks.{nodesOf}
-use Rattle.tree.proofs.Blocked.{record-in}
-use Rattle.moves.specs.Order.{childOf}
+use Rattle.tree.specs.Blocks.{nodes_of}
+use Rattle.tree.proofs.Blocked.{record_in}
+use Rattle.moves.specs.Order.{child_of}
 use Rattle.state.specs.State.{over}
 use Rattle.moves.specs.Kid.{Kid}
-use Rattle.moves.proofs.Kids.{blocked, laid, level-low}
+use Rattle.moves.proofs.Kids.{blocked, laid, level_low}
 use Rattle.captures.specs.Reach.{Reach}
-use Rattle.captures.specs.Captures.{turnF, walkF, capturesF}
-use Rattle.captures.proofs.Walks.{turn-quiet, turn-noisy, walk-next, walk-cut, walk-over, visit-answer, visit-moves, Stays, enter-stays, reach-walk, kid_at, kid-reach}
+use Rattle.captures.specs.Captures.{turn_f, walk_f, captures_f}
+use Rattle.captures.proofs.Walks.{turn_quiet, turn_noisy, walk_next, walk_cut, walk_over, visit_answer, visit_moves, Stays, enter_stays, reach_walk, kid_at, kid_reach}
 use Rattle.capture_steps.specs.declared.Here.{Here}
 use borrow.Fn.Kinds.{In}
 use borrow.Fn.PlainCycle.{Measures, is, falls, and}
@@ -41,13 +41,13 @@ use Rattle.captures.proofs.+captures_turn_walk.{statement}
 use Rattle.captures.proofs.+captures_turn_walk.Tie.{close}
 
 abbrev μ-captures : Measures 2 captures-kinds.ps ℕ
-μ-captures κs a = 3 * (nodesOf a.0.now - a.1.1.1.1.0.node) + 2
+μ-captures κs a = 3 * (nodes_of a.0.now - a.1.1.1.1.0.node) + 2
 
 abbrev μ-turn : Measures 2 turn-kinds.ps ℕ
-μ-turn κs a = 3 * (nodesOf a.0.now - a.1.1.1.0.node)
+μ-turn κs a = 3 * (nodes_of a.0.now - a.1.1.1.0.node)
 
 abbrev μ-walk : Measures 2 walk-kinds.ps ℕ
-μ-walk κs a = 3 * (nodesOf a.0.now - a.1.1.1.0.node) + 1
+μ-walk κs a = 3 * (nodes_of a.0.now - a.1.1.1.0.node) + 1
 
 abbrev captures-at : ℕ → In 2 captures-kinds.ps
 captures-at t = and 2 captures-kinds.ps (is 2 captures-kinds.ps μ-captures t) captures.Pre
@@ -109,7 +109,7 @@ captures-enter-requires t c κs =
     let a = s.args.a in
     let ok = s.requires.1.0 in
     let r = s.requires.1.1.0 in
-    (blocked set tree ok, (r.in-tree, (omega (arith, r.below-least, level-low set tree ok a.node), s.requires.1.1.1)))
+    (blocked set tree ok, (r.in_tree, (omega (arith, r.below_least, level_low set tree ok a.node), s.requires.1.1.1)))
 
 captures-enum-known-e : (t : ℕ) → captures-lts.Need-enum-known-e (captures-calls t) (captures-at t) captures.Post
 captures-enum-known-e t c = search rules
@@ -127,11 +127,11 @@ module _ (t : ℕ) (p : captures-lts.After-e2 (captures-calls t) (captures-at t)
 
   stays : Stays asked.args.a here
   stays =
-      enter-stays asked.args.set asked.args.tree.now asked.args.words.now asked.args.st asked.args.a _ _
+      enter_stays asked.args.set asked.args.tree.now asked.args.words.now asked.args.st asked.args.a _ _
       (sym p.e2.given.1 ∙ p.before.before.enter.ensures)
 
   here-reach : Reach asked.args.tree.now here.node here.below here.ply
-  here-reach = reach-walk asked.args.tree.now asked.args.a here stays asked.pre.1.1.0
+  here-reach = reach_walk asked.args.tree.now asked.args.a here stays asked.pre.1.1.0
 
 captures-walk-requires : (t : ℕ) → captures-lts.Need-walk-requires (captures-calls t) (captures-at t) captures.Post
 captures-walk-requires t c κs =
@@ -148,9 +148,9 @@ captures-finish-requires t c κs =
     let tree = s.args.tree.now in
     let ok = s.pre.1.0 in
     let r = here-reach t p in
-    let low = level-low set tree ok (here t p).node in
+    let low = level_low set tree ok (here t p).node in
     let kept = c.before.before.before.walk.auto in
-    (blocked set tree ok, (r.in-tree, (omega (arith, kept.1.0, s.pre.1.1.1), omega (arith, r.below-least, low))))
+    (blocked set tree ok, (r.in_tree, (omega (arith, kept.1.0, s.pre.1.1.1), omega (arith, r.below_least, low))))
 
 captures-same-length : (t : ℕ) → captures-lts.Need-same-length (captures-calls t) (captures-at t) captures.Post
 captures-same-length t c = refl
@@ -165,7 +165,7 @@ captures-returns t c =
     let a = s.args.a in
     let enter = c.before.before.before.enter in
     let e = c.before.e in
-    λ k h. visit-answer k _ set tree st words a h _ enter.ensures _ e.given.1
+    λ k h. visit_answer k _ set tree st words a h _ enter.ensures _ e.given.1
 
 captures-same-length-2 : (t : ℕ) → captures-lts.Need-same-length-2 (captures-calls t) (captures-at t) captures.Post
 captures-same-length-2 t c =
@@ -179,7 +179,7 @@ captures-returns-2 t c =
     let s = asked t p in
     let g = stays t p in
     λ k h. c.before.before.finish.ensures
-    ∙ visit-moves k _ s.args.set s.args.tree.now s.args.st s.args.words.now s.args.a h _ p.before.before.enter.ensures _ _
+    ∙ visit_moves k _ s.args.set s.args.tree.now s.args.st s.args.words.now s.args.a h _ p.before.before.enter.ensures _ _
     p.e2.given.1 _ (c.before.before.before.before.before.before.walk.ensures (k - 1) (omega (arith, h, g.0)))
 
 turn-is-quiet-requires : (t : ℕ) → turn-lts.Need-is-quiet-requires (turn-calls t) (turn_at t) turn.Post
@@ -188,7 +188,7 @@ turn-is-quiet-requires t c κs =
     let tree = s.args.tree.now in
     let set = s.args.set in
     let child = s.args.c in
-    record-in tree (blocked set tree s.requires.1.0) child s.requires.1.1.1.1.0.in-tree
+    record_in tree (blocked set tree s.requires.1.0) child s.requires.1.1.1.1.0.in_tree
 
 turn-unfinished-requires : (t : ℕ) → turn-lts.Need-unfinished-requires (turn-calls t) (turn_at t) turn.Post
 turn-unfinished-requires t c κs = tt
@@ -201,7 +201,7 @@ turn-returns t c =
     let tree = s.args.tree.now in
     let quiet = sym c.before.before.is-quiet.ensures ∙ c.before.if1.true in
     λ k h. ap (λ x. over x words) c.unfinished.ensures
-    ∙ turn-quiet (capturesF k set tree) set tree s.args.here s.args.loc s.args.c words quiet
+    ∙ turn_quiet (captures_f k set tree) set tree s.args.here s.args.loc s.args.c words quiet
 
 turn-counted-requires : (t : ℕ) → turn-lts.Need-counted-requires (turn-calls t) (turn_at t) turn.Post
 turn-counted-requires t c κs = tt
@@ -210,8 +210,8 @@ turn-down-requires : (t : ℕ) → turn-lts.Need-down-requires (turn-calls t) (t
 turn-down-requires t c κs =
     let s = c.before.before.before.before.before.before in
     let r = s.requires.1.1.1.1.0 in
-    let l = level-low s.args.set s.args.tree.now s.requires.1.0 s.args.c in
-    (omega (arith, r.below-least, l), omega (arith, r.ply-least, l))
+    let l = level_low s.args.set s.args.tree.now s.requires.1.0 s.args.c in
+    (omega (arith, r.below_least, l), omega (arith, r.ply_least, l))
 
 turn-captures-requires : (t : ℕ) → turn-lts.Need-captures-requires (turn-calls t) (turn_at t) turn.Post
 turn-captures-requires t c κs =
@@ -219,7 +219,7 @@ turn-captures-requires t c κs =
     let r = s.requires.1.1.1.1.0 in
     let e = c.down.ensures in
     let reach = subst (λ x. Reach s.args.tree.now x.node x.below x.ply) (sym e) r in (
-      omega (arith, s.requires.0, s.requires.1.1.0, s.requires.1.1.1.0, r.in-tree, ap (λ x. x.node) e),
+      omega (arith, s.requires.0, s.requires.1.1.0, s.requires.1.1.1.0, r.in_tree, ap (λ x. x.node) e),
       (s.requires.1.0, (reach, s.requires.1.1.1.1.1)),
     )
 
@@ -232,8 +232,8 @@ turn-judge-requires t c κs =
     let captures = c.before.before.before.captures in
     let ok = s.requires.1.0 in
     let r = s.requires.1.1.1.1.0 in
-    let l = level-low set tree ok child in
-    (blocked set tree ok, (s.requires.1.1.0, (r.in-tree, (omega (arith, captures.auto.1.0, s.requires.1.1.1.1.1), omega (arith, r.below-least, l)))))
+    let l = level_low set tree ok child in
+    (blocked set tree ok, (s.requires.1.1.0, (r.in_tree, (omega (arith, captures.auto.1.0, s.requires.1.1.1.1.1), omega (arith, r.below_least, l)))))
 
 turn-same-length : (t : ℕ) → turn-lts.Need-same-length (turn-calls t) (turn_at t) turn.Post
 turn-same-length t c =
@@ -253,14 +253,14 @@ turn-returns-2 t c =
     let captures = c.before.before.before.before.before.before.captures in
     let pre = s.requires.1.1 in
     λ k h. c.before.before.judge.ensures
-    ∙ turn-noisy (capturesF k set tree) set tree s.args.here s.args.loc s.args.c words noisy _
-    (captures.ensures k (omega (arith, h, pre.0, pre.1.0, pre.1.1.0.in-tree, ap (λ x. x.node) down.ensures))
-    ∙ ap₂ (λ x y. capturesF k set tree x words y) p.counted.ensures down.ensures)
+    ∙ turn_noisy (captures_f k set tree) set tree s.args.here s.args.loc s.args.c words noisy _
+    (captures.ensures k (omega (arith, h, pre.0, pre.1.0, pre.1.1.0.in_tree, ap (λ x. x.node) down.ensures))
+    ∙ ap₂ (λ x y. captures_f k set tree x words y) p.counted.ensures down.ensures)
 
 abbrev walk-Inv-loop : walk-lts.invariant-loop
 walk-Inv-loop tree words₀ set here k n place l₀ i₀ words l i =
-    (i ≤ n) × ((length words ≡ length words₀) × ((j : ℕ) → nodesOf tree - here.node ≤ j →
-    walkF (capturesF j set tree) set tree here place (n - i) i l words ≡ walkF (capturesF j set tree) set tree here place n 0 l₀ words₀))
+    (i ≤ n) × ((length words ≡ length words₀) × ((j : ℕ) → nodes_of tree - here.node ≤ j →
+    walk_f (captures_f j set tree) set tree here place (n - i) i l words ≡ walk_f (captures_f j set tree) set tree here place n 0 l₀ words₀))
 
 abbrev walk-μ-loop : walk-lts.decreases-loop
 walk-μ-loop tree words₀ set here k n place l₀ i₀ words l i = n - i
@@ -271,12 +271,12 @@ walk-child-count-requires t c κs =
     let tree = s.args.tree.now in
     let set = s.args.set in
     let here = s.args.here in
-    record-in tree (blocked set tree s.requires.1.0) here.node s.requires.1.1.0.in-tree
+    record_in tree (blocked set tree s.requires.1.0) here.node s.requires.1.1.0.in_tree
 
 walk-noisy-place-requires : (t : ℕ) → walk-lts.Need-noisy-place-requires (walk-calls t) (walk_at t) walk.Post walk-Inv-loop walk-μ-loop
 walk-noisy-place-requires t c κs =
     let s = c.before.before.before in
-    (laid s.args.set s.args.tree.now s.requires.1.0, s.requires.1.1.0.in-tree)
+    (laid s.args.set s.args.tree.now s.requires.1.0, s.requires.1.1.0.in_tree)
 
 walk-loop-holds : (t : ℕ) → walk-lts.Need-loop-init (walk-calls t) (walk_at t) walk.Post walk-Inv-loop walk-μ-loop
 walk-loop-holds t c = (omega arith, (refl, λ j h. simp sub-zero))
@@ -287,18 +287,18 @@ module _ (t : ℕ) (p : walk-lts.At-loop (walk-calls t) (walk_at t) walk.Post wa
   walked = p.before.before.before.before.before
 
   abbrev nth-child : ℕ → ℕ
-  nth-child j = childOf walked.args.tree.now walked.args.here.node p.before.noisy-place.result j
+  nth-child j = child_of walked.args.tree.now walked.args.here.node p.before.noisy-place.result j
 
   walk-kid : (j : ℕ) → j < p.before.before.child-count.result → Kid walked.args.tree.now walked.args.here.node (nth-child j)
   walk-kid j lt =
       kid_at walked.args.set walked.args.tree.now walked.pre.1.0 walked.args.here walked.args.loc _
-      p.before.noisy-place.ensures walked.pre.1.1.0.in-tree j (omega (arith, lt, p.before.before.child-count.ensures))
+      p.before.noisy-place.ensures walked.pre.1.1.0.in_tree j (omega (arith, lt, p.before.before.child-count.ensures))
 
 walk-child-requires : (t : ℕ) → walk-lts.Need-child-requires (walk-calls t) (walk_at t) walk.Post walk-Inv-loop walk-μ-loop
 walk-child-requires t c κs =
     let s = walked t c.before in
     let g = walk-kid t c.before c.before.loop.i (omega (arith, c.loop-test.true)) in
-    (blocked s.args.set s.args.tree.now s.pre.1.0, (s.pre.1.1.0.in-tree, g.in-tree))
+    (blocked s.args.set s.args.tree.now s.pre.1.0, (s.pre.1.1.0.in_tree, g.in_tree))
 
 walk-turn-requires : (t : ℕ) → walk-lts.Need-turn-requires (walk-calls t) (walk_at t) walk.Post walk-Inv-loop walk-μ-loop
 walk-turn-requires t c κs =
@@ -309,8 +309,8 @@ walk-turn-requires t c κs =
     let child = c.before.child in
     let r = s.pre.1.1.0 in
     let g = subst (Kid tree here.node) (sym child.ensures) (walk-kid t p p.loop.i (omega (arith, c.before.before.loop-test.true))) in
-    let reach = kid-reach tree here.node child.result here.below here.ply g r in
-    (omega (arith, s.pre.0), (s.pre.1.0, (r.in-tree, (g.above, (reach, omega (arith, p.loop.invariant.1.0, s.pre.1.1.1))))))
+    let reach = kid_reach tree here.node child.result here.below here.ply g r in
+    (omega (arith, s.pre.0), (s.pre.1.0, (r.in_tree, (g.above, (reach, omega (arith, p.loop.invariant.1.0, s.pre.1.1.1))))))
 
 walk-same-length : (t : ℕ) → walk-lts.Need-same-length (walk-calls t) (walk_at t) walk.Post walk-Inv-loop walk-μ-loop
 walk-same-length t c =
@@ -330,10 +330,10 @@ walk-returns t c =
     let taken = c.before.before.before.before.before.before.loop-test.true in
     let child = c.before.before.before.before.before.child in
     let turn = c.before.before.before.turn in
-    λ j h. sym (walk-cut (capturesF j set tree) set tree here place.result count.result loop.i loop.l loop.words _ taken
-    (turn.ensures j h ∙ ap (λ x. turnF (capturesF j set tree) set tree here loop.l x loop.words) child.ensures) c.if1.true)
+    λ j h. sym (walk_cut (captures_f j set tree) set tree here place.result count.result loop.i loop.l loop.words _ taken
+    (turn.ensures j h ∙ ap (λ x. turn_f (captures_f j set tree) set tree here loop.l x loop.words) child.ensures) c.if1.true)
     ∙ loop.invariant.1.1 j h
-    ∙ ap₂ (λ x y. walkF (capturesF j set tree) set tree here x y 0 s.args.loc s.args.words.now) place.ensures count.ensures
+    ∙ ap₂ (λ x y. walk_f (captures_f j set tree) set tree here x y 0 s.args.loc s.args.words.now) place.ensures count.ensures
 
 walk-add-i : (t : ℕ) → walk-lts.Need-overflow-add-i (walk-calls t) (walk_at t) walk.Post walk-Inv-loop walk-μ-loop
 walk-add-i t c = omega arith
@@ -357,8 +357,8 @@ walk-loop-again t c =
       omega (arith, taken),
       (
         turn.auto.1.0 ∙ loop.invariant.1.0,
-        λ j h. sym (walk-next (capturesF j set tree) set tree here place n loop.i loop.l loop.words _ taken
-            (turn.ensures j h ∙ ap (λ x. turnF (capturesF j set tree) set tree here loop.l x loop.words) child.ensures) c.before.if1.false)
+        λ j h. sym (walk_next (captures_f j set tree) set tree here place n loop.i loop.l loop.words _ taken
+            (turn.ensures j h ∙ ap (λ x. turn_f (captures_f j set tree) set tree here loop.l x loop.words) child.ensures) c.before.if1.false)
             ∙ loop.invariant.1.1 j h,
       ),
     )
@@ -380,9 +380,9 @@ walk-returns-2 t c =
     let count = p.before.before.child-count in
     let loop = p.loop in
     λ j h. ap (λ x. over x loop.words) c.unfinished.ensures
-    ∙ sym (walk-over (capturesF j set tree) set tree here place.result count.result loop.i loop.l loop.words c.before.loop-test.false)
+    ∙ sym (walk_over (captures_f j set tree) set tree here place.result count.result loop.i loop.l loop.words c.before.loop-test.false)
     ∙ loop.invariant.1.1 j h
-    ∙ ap₂ (λ x y. walkF (capturesF j set tree) set tree here x y 0 s.args.loc s.args.words.now) place.ensures count.ensures
+    ∙ ap₂ (λ x y. walk_f (captures_f j set tree) set tree here x y 0 s.args.loc s.args.words.now) place.ensures count.ensures
 
 pub +captures-turn-walk-spec : {M : Type 1} → statement M
 +captures-turn-walk-spec = close μ-captures μ-turn μ-walk (λ t. captures-lts.spec (captures-calls t) (captures-at t) captures.Post

@@ -8,7 +8,7 @@ use mir.Val.{SFits, to_z, of_z}
 use mir.Facts.{to_z-of_z}
 use Rattle.score.specs.Wrap.{sub16}
 use Rattle.score.proofs.Bits.{through, said}
-use Rattle.enter.specs.Enter.{fullWindow}
+use Rattle.enter.specs.Enter.{full_window}
 use Rattle.enter.proofs.full_window.Statement.{statement}
 use Rattle.enter.proofs.full_window.Tie as tie
 
@@ -31,7 +31,7 @@ same16-requires : tie.Need-same16-requires
 same16-requires c κs = search rules
 
 returns : tie.Need-returns
-unfolding fullWindow
+unfolding full_window
 returns c = ap not (simp (to_z-of_z (alpha-fits c.before.before.before.before), below c.before.before) at c.same16.ensures)
 
 pub full-window-spec : {M : Type 1} → statement M

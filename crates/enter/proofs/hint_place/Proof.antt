@@ -1,24 +1,24 @@
 -- `enter::hint_place` meets its contract: the children lie in the tree. Assumes nothing.
 use native.Mathlib.Omega.{arith}
-use Rattle.tree.proofs.Blocked.{record-in}
-use Rattle.enter.specs.Enter.{hintPlace}
-use Rattle.moves.proofs.Kids.{kids-within}
+use Rattle.tree.proofs.Blocked.{record_in}
+use Rattle.enter.specs.Enter.{hint_place}
+use Rattle.moves.proofs.Kids.{kids_within}
 use Rattle.enter.proofs.hint_place.Statement.{statement}
 use Rattle.enter.proofs.hint_place.Tie as tie
 
 first-child-requires : tie.Need-first-child-requires
-first-child-requires c κs = let s = c.before in record-in s.args.tree.now s.requires.0.blocked s.args.here.node s.requires.1
+first-child-requires c κs = let s = c.before in record_in s.args.tree.now s.requires.0.blocked s.args.here.node s.requires.1
 
 child-count-requires : tie.Need-child-count-requires
-child-count-requires c κs = let s = c.before.before in record-in s.args.tree.now s.requires.0.blocked s.args.here.node s.requires.1
+child-count-requires c κs = let s = c.before.before in record_in s.args.tree.now s.requires.0.blocked s.args.here.node s.requires.1
 
 place-of-requires : tie.Need-place-of-requires
 place-of-requires c κs =
     let s = c.before.before.before in
-    (s.requires.0.blocked, omega (arith, kids-within s.args.tree.now s.requires.0 s.args.here.node s.requires.1, c.before.first-child.ensures, c.child-count.ensures))
+    (s.requires.0.blocked, omega (arith, kids_within s.args.tree.now s.requires.0 s.args.here.node s.requires.1, c.before.first-child.ensures, c.child-count.ensures))
 
 returns : tie.Need-returns
-unfolding hintPlace
+unfolding hint_place
 returns c = rw (← c.before.before.first-child.ensures, ← c.before.child-count.ensures) c.place_of.ensures
 
 pub hint-place-spec : {M : Type 1} → statement M

@@ -8,9 +8,9 @@ use mir.Syntax.{w16}
 use mir.Val.{SFits, to_z, of_z}
 use mir.Facts.{to_z-of_z}
 use Rattle.score.specs.Wrap.{add16, sub16}
-use Rattle.tree.proofs.Blocked.{record-in}
-use Rattle.enter.specs.Enter.{marginIf}
-use Rattle.carry.proofs.Margins.{margin-fits, margin-is}
+use Rattle.tree.proofs.Blocked.{record_in}
+use Rattle.enter.specs.Enter.{margin_if}
+use Rattle.carry.proofs.Margins.{margin_fits, margin_is}
 use Rattle.enter.proofs.reverse_margin.Statement.{statement}
 use Rattle.enter.proofs.reverse_margin.Tie as tie
 
@@ -27,30 +27,30 @@ sum : (c : tie.After-add16) → to_z w16 (of_z w16 c.add16.result) ≡ add16 c.b
 sum c =
     let s = c.before.before.before.before in
     to_z-of_z (sum_fits c)
-    ∙ (simp (to_z-of_z (beta-fits s), margin-is 75 s.args.here.depth (omega (arith, s.requires.1.1)) (omega (arith, s.requires.1.1))) at c.add16.ensures)
+    ∙ (simp (to_z-of_z (beta-fits s), margin_is 75 s.args.here.depth (omega (arith, s.requires.1.1)) (omega (arith, s.requires.1.1))) at c.add16.ensures)
 
 cast-add16 : tie.Need-overflow-cast-add16
 cast-add16 c = search rules
 
 mul-add16 : tie.Need-overflow-mul-add16
-mul-add16 c = let s = c.before.before in margin-fits 75 s.args.here.depth (omega (arith, s.requires.1.1)) (omega (arith, s.requires.1.1))
+mul-add16 c = let s = c.before.before in margin_fits 75 s.args.here.depth (omega (arith, s.requires.1.1)) (omega (arith, s.requires.1.1))
 
 add16-requires : tie.Need-add16-requires
 add16-requires c κs = search rules
 
 is-improving-requires : tie.Need-is-improving-requires
-is-improving-requires c κs = let s = c.before.before.before.before in record-in s.args.tree.now s.requires.0 s.args.here.node s.requires.1.0
+is-improving-requires c κs = let s = c.before.before.before.before in record_in s.args.tree.now s.requires.0 s.args.here.node s.requires.1.0
 
 sub16-requires : tie.Need-sub16-requires
 sub16-requires c κs = search rules
 
 returns : tie.Need-returns
-unfolding marginIf
+unfolding margin_if
 returns c =
     to_z-of_z (less-fits c) ∙ (simp (sum c.before.before.before) at c.sub16.ensures) ∙ rw (sym c.before.before.is-improving.ensures ∙ c.before.if1.true)
 
 returns-2 : tie.Need-returns-2
-unfolding marginIf
+unfolding margin_if
 returns-2 c = sum c.before.before ∙ rw (sym c.before.is-improving.ensures ∙ c.if1.false)
 
 pub reverse-margin-spec : {M : Type 1} → statement M

@@ -7,7 +7,7 @@ use borrow.Author.Rules.{rules}
 use lib.IntN.{ℤ, nat_abs}
 use mir.Facts.{to_z-of_z}
 use Rattle.score.proofs.Bits.{said}
-use Rattle.history.specs.Entries.{bonusOf}
+use Rattle.history.specs.Entries.{bonus_of}
 use Rattle.refusals.specs.First.{entry_rows}
 use Rattle.histories.proofs.HistoryAnswers.{Accepted, accepted, change-refused, change-made}
 use Rattle.histories.proofs.bonus.Statement.{statement}
@@ -15,7 +15,7 @@ use Rattle.histories.proofs.bonus.Tie as tie
 
 -- what the definition makes of the entries
 abbrev made : tie.Start → List ℤ
-made s = bonusOf (nat_abs s.args.hh) s.args.history.now s.args.side s.args.mv s.args.depth
+made s = bonus_of (nat_abs s.args.hh) s.args.history.now s.args.side s.args.mv s.args.depth
 
 -- the refusal, as the definition has it
 told : (c : tie.After-entry-rows) → c.entry-rows.result ≡ entry_rows c.before.before.args.history.now c.before.before.args.hh c.before.before.args.side
@@ -39,7 +39,7 @@ as-made : (c : tie.After-bonus) → c.bonus.new.0 ≡ made (start c.before.befor
 as-made c =
     let u = c.before.before in
     let s = start u.before in
-    (simp (to_z-of_z s.fits.depth) at c.bonus.ensures) ∙ ap (λ (h : ℕ). bonusOf h s.args.history.now s.args.side s.args.mv s.args.depth) (most u)
+    (simp (to_z-of_z s.fits.depth) at c.bonus.ensures) ∙ ap (λ (h : ℕ). bonus_of h s.args.history.now s.args.side s.args.mv s.args.depth) (most u)
 
 entry-rows-requires : tie.Need-entry-rows-requires
 entry-rows-requires c κs = search rules
@@ -60,16 +60,16 @@ unsigned-requires : tie.Need-unsigned-requires
 unsigned-requires c κs = simp (to_z-of_z (start c).ranges.hh) (taken c).natural
 
 cast-s : tie.Need-overflow-cast-s
-cast-s c = omega (arith, (taken c.before).side-most)
+cast-s c = omega (arith, (taken c.before).side_most)
 
 bonus-requires : tie.Need-bonus-requires
-bonus-requires c κs = let t = taken c.before.before in (t.sized, (t.side-most, omega (arith, most c.before, t.above)))
+bonus-requires c κs = let t = taken c.before.before in (t.sized, (t.side_most, omega (arith, most c.before, t.above)))
 
 entry-given-requires : tie.Need-entry-given-requires
 entry-given-requires c κs =
     let n = c.before.before in
     let t = taken n.before.before.before in
-    (n.bonus.auto.0 ∙ t.sized, t.side-most)
+    (n.bonus.auto.0 ∙ t.sized, t.side_most)
 
 same-length-2 : tie.Need-same-length-2
 same-length-2 c = search rules

@@ -9,18 +9,18 @@ use mir.Syntax.{w16}
 use mir.Val.{SFits}
 use mir.Facts.{to_z-of_z}
 use Rattle.score.proofs.Bits.{said}
-use Rattle.history.specs.Gravity.{deltaOf}
+use Rattle.history.specs.Gravity.{delta_of}
 use Rattle.history.proofs.Curve.{delta16}
-use Rattle.refusals.specs.Rows.{hhMaxRight}
-use Rattle.refusals.proofs.Meaning.{hh-max-from}
-use Rattle.histories.proofs.HistoryAnswers.{delta-six, delta-made}
+use Rattle.refusals.specs.Rows.{hh_max_right}
+use Rattle.refusals.proofs.Meaning.{hh_max_from}
+use Rattle.histories.proofs.HistoryAnswers.{delta_six, delta_made}
 use Rattle.histories.proofs.delta.Statement.{statement}
 use Rattle.histories.proofs.delta.Tie as tie
 
-told : (c : tie.After-hh-max-right) → c.hh-max-right.result ≡ hhMaxRight c.before.args.hh
-told c = said hhMaxRight c.before.ranges.hh.sfits c.hh-max-right.ensures
+told : (c : tie.After-hh-max-right) → c.hh-max-right.result ≡ hh_max_right c.before.args.hh
+told c = said hh_max_right c.before.ranges.hh.sfits c.hh-max-right.ensures
 
-right : (c : tie.Else1) → hhMaxRight c.before.before.args.hh ≡ true
+right : (c : tie.Else1) → hh_max_right c.before.before.args.hh ≡ true
 right c = sym (told c.before) ∙ not-false _ c.if1.false
 
 -- the delta, as a score
@@ -31,7 +31,7 @@ module _ (c : tie.After-delta) where
   most : c.before.unsigned.result ≡ nat_abs start.args.hh
   most = simp (to_z-of_z start.fits.hh) at c.before.unsigned.ensures
 
-  is-delta : c.delta.result ≡ deltaOf c.before.unsigned.result start.args.depth
+  is-delta : c.delta.result ≡ delta_of c.before.unsigned.result start.args.depth
   is-delta = simp (to_z-of_z start.fits.depth) at c.delta.ensures
 
   fits : SFits w16 (pos c.delta.result)
@@ -41,10 +41,10 @@ hh-max-right-requires : tie.Need-hh-max-right-requires
 hh-max-right-requires c κs = search rules
 
 returns : tie.Need-returns
-returns c = let s = c.before.before in delta-six s.args.hh s.args.depth (sym (told c.before) ∙ not-true _ c.if1.true)
+returns c = let s = c.before.before in delta_six s.args.hh s.args.depth (sym (told c.before) ∙ not-true _ c.if1.true)
 
 unsigned-requires : tie.Need-unsigned-requires
-unsigned-requires c κs = let s = c.before.before in simp (to_z-of_z s.ranges.hh) (hh-max-from s.args.hh (right c))
+unsigned-requires c κs = let s = c.before.before in simp (to_z-of_z s.ranges.hh) (hh_max_from s.args.hh (right c))
 
 delta-requires : tie.Need-delta-requires
 delta-requires c κs = search rules
@@ -56,7 +56,7 @@ returns-2 : tie.Need-returns-2
 returns-2 c =
     let s = start c in
     simp (to_z-of_z (fits c))
-    (delta-made s.args.hh s.args.depth (right c.before.before) _ (is-delta c ∙ ap (λ (n : ℕ). deltaOf n s.args.depth) (most c)))
+    (delta_made s.args.hh s.args.depth (right c.before.before) _ (is-delta c ∙ ap (λ (n : ℕ). delta_of n s.args.depth) (most c)))
 
 pub delta-spec : {M : Type 1} → statement M
 delta-spec = tie.close (tie.spec hh-max-right-requires returns unsigned-requires delta-requires cast-t7 returns-2)

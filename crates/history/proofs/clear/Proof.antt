@@ -5,8 +5,8 @@ use Prim.Native.Nat.{◌-◌, ◌≤◌, ◌<◌}
 use native.Mathlib.Omega.{arith}
 use lib.IntN.{pos}
 use lib.ListN.{length, replicate, drop, length-set}
-use Rattle.history.specs.Entries.{clearOf}
-use Rattle.history.proofs.Fill.{fill_more, fill-all}
+use Rattle.history.specs.Entries.{clear_of}
+use Rattle.history.proofs.Fill.{fill_more, fill_all}
 use Rattle.history.proofs.clear.Statement.{statement}
 use Rattle.history.proofs.clear.Tie as tie
 
@@ -45,12 +45,12 @@ same_length : tie.Need-same-length invariant-loop decreases-loop
 same_length c = c.before.loop.invariant.1.0
 
 returns : tie.Need-returns invariant-loop decreases-loop
-unfolding clearOf
+unfolding clear_of
 returns c =
     let l = c.before in
     let h = l.before.args.history.now in
     let n : l.loop.i ≡ length h = omega arith in
-    fill-all (pos 0) l.loop.i h l.loop.history n l.loop.invariant.1.1
+    fill_all (pos 0) l.loop.i h l.loop.history n l.loop.invariant.1.1
 
 pub clear_spec : {M : Type 1} → statement M
 clear_spec =

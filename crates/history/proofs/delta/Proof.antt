@@ -8,8 +8,8 @@ use mir.Syntax.{w32}
 use mir.Val.{SFits, to_z}
 use mir.Facts.{to_z-of_z, to_z_pos}
 use Rattle.score.proofs.Cases.{holds, fails}
-use Rattle.history.specs.Gravity.{held, deltaOf}
-use Rattle.history.proofs.Curve.{Inside, held_low, held-mid, held_high}
+use Rattle.history.specs.Gravity.{held, delta_of}
+use Rattle.history.proofs.Curve.{Inside, held_low, held_mid, held_high}
 use Rattle.history.proofs.delta.Statement.{statement}
 use Rattle.history.proofs.delta.Tie as tie
 
@@ -20,15 +20,15 @@ module _ (c : tie.After-curve-at) where
   most32 : to_z w32 (c.before.args.hh / 4) ≡ pos (c.before.args.hh / 4)
   most32 = to_z_pos w32 (omega (arith, c.before.ranges.hh.fits))
 
-  is-delta : held c.curve-at.result (c.before.args.hh / 4) ≡ deltaOf c.before.args.hh c.before.args.depth
-  unfolding deltaOf
+  is-delta : held c.curve-at.result (c.before.args.hh / 4) ≡ delta_of c.before.args.hh c.before.args.depth
+  unfolding delta_of
   is-delta =
       ap (λ (z : ℤ). held z (c.before.args.hh / 4)) (simp (to_z-of_z c.before.ranges.depth) at c.curve-at.ensures)
 
 mid : (c : tie.Then2) → Inside c.before.before.curve-at.result (c.before.before.before.args.hh / 4)
 mid c =
     let a = c.before.before in
-    held-mid a.curve-at.result (a.before.args.hh / 4) (fails (simp (to_z-of_z (y-fits a)) at c.before.if1.false))
+    held_mid a.curve-at.result (a.before.args.hh / 4) (fails (simp (to_z-of_z (y-fits a)) at c.before.if1.false))
     (holds (simp (to_z-of_z (y-fits a), most32 a) at c.if2.true))
 
 curve-at-requires : tie.Need-curve-at-requires

@@ -5,12 +5,12 @@ use lib.IntN.{pos}
 use mir.Syntax.{w16}
 use mir.Val.{SFits}
 use mir.Facts.{to_z-of_z}
-use Rattle.history.specs.Gravity.{deltaOf}
+use Rattle.history.specs.Gravity.{delta_of}
 use Rattle.history.proofs.Curve.{delta16}
 use Rattle.history.proofs.delta_score.Statement.{statement}
 use Rattle.history.proofs.delta_score.Tie as tie
 
-is-delta : (c : tie.After-delta) → c.delta.result ≡ deltaOf c.before.args.hh c.before.args.depth
+is-delta : (c : tie.After-delta) → c.delta.result ≡ delta_of c.before.args.hh c.before.args.depth
 is-delta c = simp (to_z-of_z c.before.ranges.depth) at c.delta.ensures
 
 fits : (c : tie.After-delta) → SFits w16 (pos c.delta.result)

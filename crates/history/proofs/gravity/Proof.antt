@@ -7,8 +7,8 @@ use lib.Signed.{quot_z}
 use mir.Syntax.{w32}
 use mir.Val.{SFits, to_z}
 use mir.Facts.{to_z-of_z, to_z_pos, sfits_widen}
-use Rattle.history.specs.Gravity.{newOf, gravityOf}
-use Rattle.history.proofs.Bounds.{sum32, prod32, quot32, new32, new-mag}
+use Rattle.history.specs.Gravity.{new_of, gravity_of}
+use Rattle.history.proofs.Bounds.{sum32, prod32, quot32, new32, new_mag}
 use Rattle.history.proofs.gravity.Statement.{statement}
 use Rattle.history.proofs.gravity.Tie as tie
 
@@ -34,7 +34,7 @@ module _ (s : tie.Start) where
   quot : SFits w32 (quot_z (s.args.old *ℤ pos (nat_abs s.args.v)) (pos s.args.hh))
   quot = quot32 s.args.hh s.args.old s.args.v s.fits.old s.fits.hh.fits s.pre.1
 
-  new : SFits w32 (newOf s.args.hh s.args.old s.args.v)
+  new : SFits w32 (new_of s.args.hh s.args.old s.args.v)
   new = new32 s.args.hh s.args.old s.args.v s.fits.old s.fits.hh.fits s.pre.1
 
 abs_is : (c : tie.After-abs) → c.abs.result ≡ nat_abs c.before.args.v
@@ -71,21 +71,21 @@ div-new c =
     simp (to_z-of_z s.ranges.old, to_z-of_z (old32 s), abs_is c, abs32 s, hh32 s, to_z-of_z (prod s)) (s.requires.0, quot s)
 
 sub-new : tie.Need-overflow-sub-new
-unfolding newOf
+unfolding new_of
 sub-new c =
     let s = c.before in
     simp (to_z-of_z s.ranges.old, to_z-of_z s.ranges.v, to_z-of_z (old32 s), to_z-of_z (v32 s), abs_is c, abs32 s, hh32 s, to_z-of_z (sum s), to_z-of_z (prod s), to_z-of_z (quot s))
     (new s)
 
 wrap-requires : tie.Need-wrap-requires
-unfolding newOf
+unfolding new_of
 wrap-requires c κs =
     let s = c.before in
     simp (to_z-of_z s.ranges.old, to_z-of_z s.ranges.v, to_z-of_z (old32 s), to_z-of_z (v32 s), abs_is c, abs32 s, hh32 s, to_z-of_z (sum s), to_z-of_z (prod s), to_z-of_z (quot s), to_z-of_z (new s))
-    (new-mag s.args.hh s.args.old s.args.v s.ranges.old s.ranges.hh.fits s.requires.1)
+    (new_mag s.args.hh s.args.old s.args.v s.ranges.old s.ranges.hh.fits s.requires.1)
 
 returns : tie.Need-returns
-unfolding gravityOf newOf
+unfolding gravity_of new_of
 returns c =
     let a = c.before in
     let s = a.before in

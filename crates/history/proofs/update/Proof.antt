@@ -8,8 +8,8 @@ use lib.ListN.{get_or, set}
 use mir.Syntax.{w16}
 use mir.Val.{SFits}
 use mir.Facts.{to_z-of_z}
-use Rattle.history.specs.Gravity.{gravityOf}
-use Rattle.history.specs.Entries.{updateOf}
+use Rattle.history.specs.Gravity.{gravity_of}
+use Rattle.history.specs.Entries.{update_of}
 use Rattle.history.proofs.Change.{index_below}
 use Rattle.history.proofs.update.Statement.{statement}
 use Rattle.history.proofs.update.Tie as tie
@@ -41,7 +41,7 @@ same_length : tie.Need-same-length
 same_length c = search rules
 
 returns : tie.Need-returns
-unfolding updateOf
+unfolding update_of
 returns c =
     let a = c.before.before in
     let s = a.before in
@@ -49,7 +49,7 @@ returns c =
     let f : SFits w16 c.gravity.result = search rules in
     let o : SFits w16 (get_or s.args.history.now i (pos 0)) = search rules in
     ap (set s.args.history.now i) (to_z-of_z f ∙ (simp (to_z-of_z o, to_z-of_z s.ranges.v) at c.gravity.ensures))
-    ∙ ap (λ (k : ℕ). set s.args.history.now k (gravityOf s.args.hh (get_or s.args.history.now k (pos 0)) s.args.v)) a.history-index.ensures
+    ∙ ap (λ (k : ℕ). set s.args.history.now k (gravity_of s.args.hh (get_or s.args.history.now k (pos 0)) s.args.v)) a.history-index.ensures
 
 pub update-spec : {M : Type 1} → statement M
 update-spec =

@@ -8,13 +8,13 @@ use lib.ListN.{length, get_or, drop}
 use mir.Syntax.{w16}
 use mir.Val.{SFits}
 use mir.Facts.{to_z-of_z}
-use Rattle.history.specs.Entries.{withinOf}
+use Rattle.history.specs.Entries.{within_of}
 use Rattle.history.proofs.Inside.{inside, outside, none_left}
 use Rattle.history.proofs.within.Statement.{statement}
 use Rattle.history.proofs.within.Tie as tie
 
 abbrev invariant-loop : tie.invariant-loop
-invariant-loop history hh i₀ i = (i ≤ length history) × (withinOf hh (drop i history) ≡ withinOf hh history)
+invariant-loop history hh i₀ i = (i ≤ length history) × (within_of hh (drop i history) ≡ within_of hh history)
 
 abbrev decreases-loop : tie.decreases-loop
 decreases-loop history hh i₀ i = length history - i
@@ -65,7 +65,7 @@ returns-2 c =
     let l = c.before in
     let s = l.before.args in
     let e : length s.history.now ≡ l.loop.i = omega arith in
-    sym (none_left s.hh s.history.now) ∙ ap (λ (k : ℕ). withinOf s.hh (drop k s.history.now)) e ∙ l.loop.invariant.1
+    sym (none_left s.hh s.history.now) ∙ ap (λ (k : ℕ). within_of s.hh (drop k s.history.now)) e ∙ l.loop.invariant.1
 
 pub within-spec : {M : Type 1} → statement M
 within-spec =

@@ -3,7 +3,7 @@ use mathlib.Core.Path.{refl, sym, ap, ◌∙◌}
 use borrow.Author.Rules.{rules}
 use Rattle.moves.specs.Order.{order_at}
 use Rattle.moves.specs.declared.Place.{Place}
-use Rattle.moves.proofs.Ordered.{order-first, order-before, order-behind}
+use Rattle.moves.proofs.Ordered.{order_first, order_before, order_behind}
 use Rattle.moves.proofs.order_at.Statement.{statement}
 use Rattle.moves.proofs.order_at.Tie as tie
 
@@ -13,7 +13,7 @@ enum-known-place c = search rules
 returns : tie.Need-returns
 returns c =
     let s = c.before.before.before.before in
-    order-first _ _ c.if1.true ∙ sym (ap (λ (q : Place). order_at q s.args.i) c.before.before.place.given.1)
+    order_first _ _ c.if1.true ∙ sym (ap (λ (q : Place). order_at q s.args.i) c.before.before.place.given.1)
 
 sub-result : tie.Need-overflow-sub-result
 sub-result c = search rules
@@ -24,12 +24,12 @@ enum_told c = search rules
 returns-2 : tie.Need-returns-2
 returns-2 c =
     let s = c.before.before.before.before.before in
-    order-before _ _ c.before.if1.false c.if2.true ∙ sym (ap (λ (q : Place). order_at q s.args.i) c.before.before.before.place.given.1)
+    order_before _ _ c.before.if1.false c.if2.true ∙ sym (ap (λ (q : Place). order_at q s.args.i) c.before.before.before.place.given.1)
 
 returns-3 : tie.Need-returns-3
 returns-3 c =
     let s = c.before.before.before.before.before in
-    order-behind _ _ c.before.if1.false c.if2.false ∙ sym (ap (λ (q : Place). order_at q s.args.i) c.before.before.before.place.given.1)
+    order_behind _ _ c.before.if1.false c.if2.false ∙ sym (ap (λ (q : Place). order_at q s.args.i) c.before.before.before.place.given.1)
 
 returns-4 : tie.Need-returns-4
 unfolding order_at

@@ -16,7 +16,7 @@ loop-holds : tie.Need-loop-init invariant-loop decreases-loop
 loop-holds c = (refl, (refl, (refl, refl)))
 
 request-requires : tie.Need-request-requires invariant-loop decreases-loop
-request-requires c κs = let p = c.before.before.before.before.before.before.before.before.before.requires in record { tree-room = omega arith; words-room = omega arith; history-room = omega arith; steps-room = omega arith }
+request-requires c κs = let p = c.before.before.before.before.before.before.before.before.before.requires in record { tree_room = omega arith; words_room = omega arith; history_room = omega arith; steps_room = omega arith }
 
 same_length : tie.Need-same-length invariant-loop decreases-loop
 same_length c = search rules

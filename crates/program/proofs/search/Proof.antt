@@ -6,8 +6,8 @@ use Rattle.table.specs.declared.Stats.{Stats}
 use Rattle.state.specs.declared.Settings.{Settings}
 use Rattle.carry.specs.Carry.{With}
 use Rattle.results.specs.declared.RootResult.{RootResult}
-use Rattle.desk.specs.RootEntry.{rootEntry}
-use Rattle.program.specs.Program.{freshTable, freshHistory}
+use Rattle.desk.specs.RootEntry.{root_entry}
+use Rattle.program.specs.Program.{fresh_table, fresh_history}
 use Rattle.program.proofs.search.Statement.{statement}
 use Rattle.program.proofs.search.Tie as tie
 
@@ -27,12 +27,12 @@ search-root-requires : tie.Need-search-root-requires
 search-root-requires c κs = search rules
 
 returns : tie.Need-returns
-unfolding freshTable freshHistory
+unfolding fresh_table fresh_history
 returns c =
     let k = c.before.before in
     let t = k.before.before.before.before.before.before.args.tree.now in
     ap (λ (w : With RootResult). w.it) k.search-root.ensures
-    ∙ ap₂ (λ (set : Settings) (s : Stats). (rootEntry t set s (pos 1) (pos 31) freshTable freshHistory).it) k.before.before.settings.ensures k.before.fresh.ensures
+    ∙ ap₂ (λ (set : Settings) (s : Stats). (root_entry t set s (pos 1) (pos 31) fresh_table fresh_history).it) k.before.before.settings.ensures k.before.fresh.ensures
 
 pub search-spec : {M : Type 1} → statement M
 search-spec =

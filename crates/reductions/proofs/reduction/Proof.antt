@@ -5,8 +5,8 @@ use borrow.Author.Rules.{rules}
 use borrow.Author.Tests.{lt-ltb, le-ltb}
 use native.Mathlib.Omega.{arith}
 use Rattle.reductions.specs.declared.lmr.Quarters.{Quarters}
-use Rattle.reductions.specs.Packed.{quarterOf}
-use Rattle.reductions.proofs.Digits.{the-entry}
+use Rattle.reductions.specs.Packed.{quarter_of}
+use Rattle.reductions.proofs.Digits.{the_entry}
 use Rattle.reductions.proofs.reduction.Statement.{statement}
 use Rattle.reductions.proofs.reduction.Tie as tie
 
@@ -33,8 +33,8 @@ returns-3 c =
     let m = s.args.moves in
     simp (le-ltb 31 s.args.depth (omega arith), le-ltb 63 m (omega arith))
     (c.digit.ensures
-    ∙ ap (λ (w : ℕ). w / 2 ^ (4 * (m % 16)) % 16) (c.before.quarter.ensures ∙ ap (λ (r : Quarters). quarterOf r (m / 16)) c.before.before.row.ensures)
-    ∙ the-entry s.args.depth m (omega arith) (omega arith))
+    ∙ ap (λ (w : ℕ). w / 2 ^ (4 * (m % 16)) % 16) (c.before.quarter.ensures ∙ ap (λ (r : Quarters). quarter_of r (m / 16)) c.before.before.row.ensures)
+    ∙ the_entry s.args.depth m (omega arith) (omega arith))
 
 pub reduction-spec : {M : Type 1} → statement M
 reduction-spec = tie.close (tie.spec returns returns-2 row-requires quarter-requires digit-requires returns-3)

@@ -6,10 +6,10 @@ use lib.Signed.{lt_z, le_z}
 use mir.Syntax.{w32}
 use mir.Val.{SFits}
 use mir.Facts.{to_z-of_z, sfits_widen}
-use Rattle.refusals.specs.Rows.{windowRight}
-use Rattle.refusals.proofs.Tests.{fails-first, fails-second, holds-both}
-use Rattle.refusals.proofs.Orders.{below, not-below, at_most, not-at-most}
-use Rattle.refusals.proofs.Numbers.{negation-fits}
+use Rattle.refusals.specs.Rows.{window_right}
+use Rattle.refusals.proofs.Tests.{fails_first, fails_second, holds_both}
+use Rattle.refusals.proofs.Orders.{below, not_below, at_most, not_at_most}
+use Rattle.refusals.proofs.Numbers.{negation_fits}
 use Rattle.refusals.proofs.window_right.Statement.{statement}
 use Rattle.refusals.proofs.window_right.Tie as tie
 
@@ -21,7 +21,7 @@ module _ (c : tie.Start) where
   inf32 = sfits_widen tt c.ranges.inf
 
   least32 : SFits w32 (neg_ℤ c.args.inf)
-  least32 = negation-fits c.args.inf c.ranges.inf.sfits
+  least32 = negation_fits c.args.inf c.ranges.inf.sfits
 
 tested : (c : tie.Then1) → lt_z c.before.args.alpha (neg_ℤ c.before.args.inf) ≡ true
 tested c =
@@ -43,29 +43,29 @@ sub-if1 : tie.Need-overflow-sub-if1
 sub-if1 c = simp (to_z-of_z c.ranges.inf, to_z-of_z (inf32 c), +ℤ_idl) (least32 c)
 
 returns : tie.Need-returns
-unfolding windowRight
+unfolding window_right
 returns c =
     let a = c.before.args in
-    fails-first (le_z (neg_ℤ a.inf) a.alpha) (lt_z a.alpha a.beta) (le_z a.beta a.inf) (below a.alpha (neg_ℤ a.inf) (tested c))
+    fails_first (le_z (neg_ℤ a.inf) a.alpha) (lt_z a.alpha a.beta) (le_z a.beta a.inf) (below a.alpha (neg_ℤ a.inf) (tested c))
 
 returns-2 : tie.Need-returns-2
-unfolding windowRight
+unfolding window_right
 returns-2 c =
     let s = c.before.before in
     let a = s.args in
-    fails-second (le_z (neg_ℤ a.inf) a.alpha) (lt_z a.alpha a.beta) (le_z a.beta a.inf)
-    (not-below a.alpha (neg_ℤ a.inf) (passed c.before))
+    fails_second (le_z (neg_ℤ a.inf) a.alpha) (lt_z a.alpha a.beta) (le_z a.beta a.inf)
+    (not_below a.alpha (neg_ℤ a.inf) (passed c.before))
     (at_most a.beta a.alpha (simp (to_z-of_z s.ranges.alpha, to_z-of_z s.ranges.beta) at c.if2.true))
 
 returns-3 : tie.Need-returns-3
-unfolding windowRight
+unfolding window_right
 returns-3 c =
     let s = c.before.before in
     let a = s.args in
     simp (to_z-of_z s.ranges.beta, to_z-of_z s.ranges.inf)
-    (holds-both (le_z (neg_ℤ a.inf) a.alpha) (lt_z a.alpha a.beta) (le_z a.beta a.inf)
-    (not-below a.alpha (neg_ℤ a.inf) (passed c.before))
-    (not-at-most a.beta a.alpha (simp (to_z-of_z s.ranges.alpha, to_z-of_z s.ranges.beta) at c.if2.false)))
+    (holds_both (le_z (neg_ℤ a.inf) a.alpha) (lt_z a.alpha a.beta) (le_z a.beta a.inf)
+    (not_below a.alpha (neg_ℤ a.inf) (passed c.before))
+    (not_at_most a.beta a.alpha (simp (to_z-of_z s.ranges.alpha, to_z-of_z s.ranges.beta) at c.if2.false)))
 
 pub window-right-spec : {M : Type 1} → statement M
 window-right-spec = tie.close (tie.spec cast-if1 cast-if1-2 sub-if1 returns returns-2 returns-3)

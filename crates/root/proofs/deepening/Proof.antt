@@ -5,17 +5,17 @@ use native.Mathlib.Omega.{arith}
 use borrow.Author.Rules.{rules}
 use lib.ListN.{length}
 use Rattle.carry.specs.Carry.{with}
-use Rattle.visits.specs.Search.{nodeSearch}
-use Rattle.visits.proofs.Asked.{still-ready}
-use Rattle.root.specs.Root.{depthsF}
-use Rattle.root.proofs.Depths.{depths-mate, depths-over, depths-next, depths-end}
+use Rattle.visits.specs.Search.{node_search}
+use Rattle.visits.proofs.Asked.{still_ready}
+use Rattle.root.specs.Root.{depths_f}
+use Rattle.root.proofs.Depths.{depths_mate, depths_over, depths_next, depths_end}
 use Rattle.root.proofs.deepening.Statement.{statement}
 use Rattle.root.proofs.deepening.Tie as tie
 
 abbrev invariant-loop : tie.invariant-loop
 invariant-loop tree words₀ history₀ set start end d₀ depth₀ words history d depth =
     (start ≤ depth) × ((length words ≡ length words₀) × ((length history ≡ length history₀)
-    × (depthsF (nodeSearch tree set) tree set (end - depth) depth (with d words history) ≡ depthsF (nodeSearch tree set) tree set (end - start) start (with d₀ words₀ history₀))))
+    × (depths_f (node_search tree set) tree set (end - depth) depth (with d words history) ≡ depths_f (node_search tree set) tree set (end - start) start (with d₀ words₀ history₀))))
 
 abbrev decreases-loop : tie.decreases-loop
 decreases-loop tree words₀ history₀ set start end d₀ depth₀ words history d depth = end - depth
@@ -36,7 +36,7 @@ returns : tie.Need-returns invariant-loop decreases-loop
 returns c =
     let l = c.before.before.before in
     let s = c.before.before.before.before.before.before in
-    sym (depths-mate (nodeSearch s.args.tree.now s.args.set) s.args.tree.now s.args.set s.args.end l.loop.depth l.loop.d l.loop.words l.loop.history c.before.before.loop-test.true
+    sym (depths_mate (node_search s.args.tree.now s.args.set) s.args.tree.now s.args.set s.args.end l.loop.depth l.loop.d l.loop.words l.loop.history c.before.before.loop-test.true
     (sym c.before.mated.ensures ∙ c.if1.true))
     ∙ l.loop.invariant.1.1.1
 
@@ -44,7 +44,7 @@ root-depth-requires : tie.Need-root-depth-requires invariant-loop decreases-loop
 root-depth-requires c κs =
     let l = c.before.before.before.before.before in
     let s = c.before.before.before.before.before.before.before.before in (
-      still-ready s.args.set s.args.tree.now _ _ _ _ s.requires.0 l.loop.invariant.1.0 l.loop.invariant.1.1.0,
+      still_ready s.args.set s.args.tree.now _ _ _ _ s.requires.0 l.loop.invariant.1.0 l.loop.invariant.1.1.0,
       (s.requires.1.0, (omega (arith, l.loop.invariant.0, s.requires.1.1.0), omega (arith, c.before.before.before.before.loop-test.true, s.requires.1.1.1))),
     )
 
@@ -59,7 +59,7 @@ returns-2 c =
     let r = c.before.before.before.before in
     let l = c.before.before.before.before.before.before.before.before.before.before in
     let s = c.before.before.before.before.before.before.before.before.before.before.before.before.before in
-    sym (depths-over (nodeSearch s.args.tree.now s.args.set) s.args.tree.now s.args.set s.args.end l.loop.depth l.loop.d l.loop.words l.loop.history c.before.before.before.before.before.before.before.before.before.loop-test.true
+    sym (depths_over (node_search s.args.tree.now s.args.set) s.args.tree.now s.args.set s.args.end l.loop.depth l.loop.d l.loop.words l.loop.history c.before.before.before.before.before.before.before.before.before.loop-test.true
     (sym c.before.before.before.before.before.before.before.before.mated.ensures ∙ c.before.before.before.before.before.before.before.if1.false) (with r.root-depth.result r.root-depth.new.1.0 r.root-depth.new.1.1.0) r.root-depth.ensures c.if2.true)
     ∙ l.loop.invariant.1.1.1
 
@@ -79,7 +79,7 @@ loop-again c =
         r.root-depth.auto.1.0 ∙ l.loop.invariant.1.0,
         (
           r.root-depth.auto.1.1.0 ∙ l.loop.invariant.1.1.0,
-          sym (depths-next (nodeSearch s.args.tree.now s.args.set) s.args.tree.now s.args.set s.args.end l.loop.depth l.loop.d l.loop.words l.loop.history c.before.before.before.before.before.before.before.before.before.loop-test.true
+          sym (depths_next (node_search s.args.tree.now s.args.set) s.args.tree.now s.args.set s.args.end l.loop.depth l.loop.d l.loop.words l.loop.history c.before.before.before.before.before.before.before.before.before.loop-test.true
               (sym c.before.before.before.before.before.before.before.before.mated.ensures ∙ c.before.before.before.before.before.before.before.if1.false) (with r.root-depth.result r.root-depth.new.1.0 r.root-depth.new.1.1.0) r.root-depth.ensures c.if2.false)
               ∙ l.loop.invariant.1.1.1,
         ),
@@ -96,7 +96,7 @@ returns-3 : tie.Need-returns-3 invariant-loop decreases-loop
 returns-3 c =
     let l = c.before in
     let s = c.before.before.before.before in
-    sym (depths-end (nodeSearch s.args.tree.now s.args.set) s.args.tree.now s.args.set s.args.end l.loop.depth l.loop.d l.loop.words l.loop.history c.loop-test.false)
+    sym (depths_end (node_search s.args.tree.now s.args.set) s.args.tree.now s.args.set s.args.end l.loop.depth l.loop.d l.loop.words l.loop.history c.loop-test.false)
     ∙ l.loop.invariant.1.1.1
 
 pub deepening-spec : {M : Type 1} → statement M

@@ -5,23 +5,23 @@ use native.Mathlib.Nat.{sub-zero}
 use native.Mathlib.Omega.{arith}
 use borrow.Author.Rules.{rules}
 use lib.ListN.{length}
-use Rattle.tree.proofs.Blocked.{record-in}
+use Rattle.tree.proofs.Blocked.{record_in}
 use Rattle.moves.specs.Kid.{Kid}
-use Rattle.moves.specs.Order.{childOf}
+use Rattle.moves.specs.Order.{child_of}
 use Rattle.moves.proofs.Kids.{blocked, laid}
 use Rattle.carry.specs.Carry.{with}
-use Rattle.visits.specs.Search.{nodeSearch}
-use Rattle.visits.proofs.Asked.{still-ready}
-use Rattle.root.specs.Root.{turnF, walkF, walkAll}
-use Rattle.root.proofs.Asked.{root_in, root-kid}
-use Rattle.root.proofs.Walks.{walk-stop, walk-next, walk-over, walk-whole}
+use Rattle.visits.specs.Search.{node_search}
+use Rattle.visits.proofs.Asked.{still_ready}
+use Rattle.root.specs.Root.{turn_f, walk_f, walk_all}
+use Rattle.root.proofs.Asked.{root_in, root_kid}
+use Rattle.root.proofs.Walks.{walk_stop, walk_next, walk_over, walk_whole}
 use Rattle.root.proofs.root_walk.Statement.{statement}
 use Rattle.root.proofs.root_walk.Tie as tie
 
 abbrev invariant-loop : tie.invariant-loop
 invariant-loop tree words₀ history₀ set depth n place w₀ i₀ words history w i =
     (i ≤ n) × ((length words ≡ length words₀) × ((length history ≡ length history₀)
-    × (walkF (nodeSearch tree set) tree set depth place (n - i) i (with w words history) ≡ walkF (nodeSearch tree set) tree set depth place n 0 (with w₀ words₀ history₀))))
+    × (walk_f (node_search tree set) tree set depth place (n - i) i (with w words history) ≡ walk_f (node_search tree set) tree set depth place n 0 (with w₀ words₀ history₀))))
 
 abbrev decreases-loop : tie.decreases-loop
 decreases-loop tree words₀ history₀ set depth n place w₀ i₀ words history w i = n - i
@@ -29,7 +29,7 @@ decreases-loop tree words₀ history₀ set depth n place w₀ i₀ words histor
 child-count-requires : tie.Need-child-count-requires invariant-loop decreases-loop
 child-count-requires c κs =
     let s = c.before.before in
-    record-in s.args.tree.now (blocked s.args.set s.args.tree.now s.requires.0.accepted) 0 (root_in s.args.set s.args.tree.now s.requires.0.accepted)
+    record_in s.args.tree.now (blocked s.args.set s.args.tree.now s.requires.0.accepted) 0 (root_in s.args.set s.args.tree.now s.requires.0.accepted)
 
 place-of-requires : tie.Need-place-of-requires invariant-loop decreases-loop
 place-of-requires c κs =
@@ -43,10 +43,10 @@ loop-holds : tie.Need-loop-init invariant-loop decreases-loop
 loop-holds c = (omega arith, (refl, (refl, simp sub-zero)))
 
 -- the walk from the start is the contract's
-whole-walk : (c : tie.After-begin invariant-loop decreases-loop) → walkF (nodeSearch c.before.before.before.before.before.args.tree.now c.before.before.before.before.before.args.set) c.before.before.before.before.before.args.tree.now c.before.before.before.before.before.args.set c.before.before.before.before.before.args.depth c.before.place_of.result c.before.before.child-count.result 0 (with c.begin.result c.before.before.before.before.before.args.words.now c.before.before.before.before.before.args.history.now) ≡ walkAll (nodeSearch c.before.before.before.before.before.args.tree.now c.before.before.before.before.before.args.set) c.before.before.before.before.before.args.tree.now c.before.before.before.before.before.args.set c.before.before.before.before.before.args.best c.before.before.before.before.before.args.depth c.before.before.before.before.before.args.st c.before.before.before.before.before.args.words.now c.before.before.before.before.before.args.history.now
+whole-walk : (c : tie.After-begin invariant-loop decreases-loop) → walk_f (node_search c.before.before.before.before.before.args.tree.now c.before.before.before.before.before.args.set) c.before.before.before.before.before.args.tree.now c.before.before.before.before.before.args.set c.before.before.before.before.before.args.depth c.before.place_of.result c.before.before.child-count.result 0 (with c.begin.result c.before.before.before.before.before.args.words.now c.before.before.before.before.before.args.history.now) ≡ walk_all (node_search c.before.before.before.before.before.args.tree.now c.before.before.before.before.before.args.set) c.before.before.before.before.before.args.tree.now c.before.before.before.before.before.args.set c.before.before.before.before.before.args.best c.before.before.before.before.before.args.depth c.before.before.before.before.before.args.st c.before.before.before.before.before.args.words.now c.before.before.before.before.before.args.history.now
 whole-walk c =
     let s = c.before.before.before.before.before in
-    walk-whole (nodeSearch s.args.tree.now s.args.set) s.args.tree.now s.args.set s.args.depth s.args.best s.args.st s.args.words.now s.args.history.now
+    walk_whole (node_search s.args.tree.now s.args.set) s.args.tree.now s.args.set s.args.depth s.args.best s.args.st s.args.words.now s.args.history.now
     c.before.place_of.result c.before.before.child-count.result c.begin.result c.before.place_of.ensures c.before.before.child-count.ensures c.begin.ensures
 
 polled-requires : tie.Need-polled-requires invariant-loop decreases-loop
@@ -63,27 +63,27 @@ returns c =
     let p = c.before.before in
     let l = c.before.before.before.before in
     let s = c.before.before.before.before.before.before.before.before.before.before in
-    sym (walk-stop (nodeSearch s.args.tree.now s.args.set) s.args.tree.now s.args.set s.args.depth c.before.before.before.before.before.before.place_of.result c.before.before.before.before.before.before.before.child-count.result l.loop.i l.loop.w l.loop.words l.loop.history
+    sym (walk_stop (node_search s.args.tree.now s.args.set) s.args.tree.now s.args.set s.args.depth c.before.before.before.before.before.before.place_of.result c.before.before.before.before.before.before.before.child-count.result l.loop.i l.loop.w l.loop.words l.loop.history
     p.polled.result c.before.before.before.loop-test.true p.polled.ensures c.if1.true)
     ∙ l.loop.invariant.1.1.1
     ∙ whole-walk c.before.before.before.before.before
 
 -- the next move leads to a child of the root
-child : (c : tie.In-loop invariant-loop decreases-loop) → Kid c.before.before.before.before.before.before.before.args.tree.now 0 (childOf c.before.before.before.before.before.before.before.args.tree.now 0 c.before.before.before.place_of.result c.before.loop.i)
+child : (c : tie.In-loop invariant-loop decreases-loop) → Kid c.before.before.before.before.before.before.before.args.tree.now 0 (child_of c.before.before.before.before.before.before.before.args.tree.now 0 c.before.before.before.place_of.result c.before.loop.i)
 child c =
     let s = c.before.before.before.before.before.before.before in
-    root-kid s.args.set s.args.tree.now s.requires.0.accepted s.args.best c.before.before.before.place_of.result c.before.before.before.before.child-count.result c.before.loop.i c.before.before.before.place_of.ensures c.before.before.before.before.child-count.ensures c.loop-test.true
+    root_kid s.args.set s.args.tree.now s.requires.0.accepted s.args.best c.before.before.before.place_of.result c.before.before.before.before.child-count.result c.before.loop.i c.before.before.before.place_of.ensures c.before.before.before.before.child-count.ensures c.loop-test.true
 
 child-requires : tie.Need-child-requires invariant-loop decreases-loop
 child-requires c κs =
     let s = c.before.before.before.before.before.before.before.before.before.before in
-    (blocked s.args.set s.args.tree.now s.requires.0.accepted, (root_in s.args.set s.args.tree.now s.requires.0.accepted, (child c.before.before.before).in-tree))
+    (blocked s.args.set s.args.tree.now s.requires.0.accepted, (root_in s.args.set s.args.tree.now s.requires.0.accepted, (child c.before.before.before).in_tree))
 
 root-turn-requires : tie.Need-root-turn-requires invariant-loop decreases-loop
 root-turn-requires c κs =
     let l = c.before.before.before.before.before.before.before in
     let s = c.before.before.before.before.before.before.before.before.before.before.before.before.before in (
-      still-ready s.args.set s.args.tree.now _ _ _ _ s.requires.0 l.loop.invariant.1.0 l.loop.invariant.1.1.0,
+      still_ready s.args.set s.args.tree.now _ _ _ _ s.requires.0 l.loop.invariant.1.0 l.loop.invariant.1.1.0,
       (s.requires.1, subst (Kid s.args.tree.now 0) (sym c.before.before.child.ensures) (child c.before.before.before.before.before.before)),
     )
 
@@ -104,10 +104,10 @@ loop-again c =
         r.root-turn.auto.1.0 ∙ l.loop.invariant.1.0,
         (
           r.root-turn.auto.1.1.0 ∙ l.loop.invariant.1.1.0,
-          sym (walk-next (nodeSearch s.args.tree.now s.args.set) s.args.tree.now s.args.set s.args.depth c.before.before.before.before.before.before.before.before.before.before.before.before.before.place_of.result c.before.before.before.before.before.before.before.before.before.before.before.before.before.before.child-count.result l.loop.i l.loop.w l.loop.words l.loop.history
+          sym (walk_next (node_search s.args.tree.now s.args.set) s.args.tree.now s.args.set s.args.depth c.before.before.before.before.before.before.before.before.before.before.before.before.before.place_of.result c.before.before.before.before.before.before.before.before.before.before.before.before.before.before.child-count.result l.loop.i l.loop.w l.loop.words l.loop.history
               p.polled.result c.before.before.before.before.before.before.before.before.before.before.loop-test.true p.polled.ensures c.before.before.before.before.before.before.before.if1.false
               (with r.root-turn.result r.root-turn.new.1.0 r.root-turn.new.1.1.0)
-              (r.root-turn.ensures ∙ ap (λ (x : ℕ). turnF (nodeSearch s.args.tree.now s.args.set) s.args.tree.now s.args.set s.args.depth p.polled.result x l.loop.words l.loop.history) c.before.before.before.before.before.before.child.ensures))
+              (r.root-turn.ensures ∙ ap (λ (x : ℕ). turn_f (node_search s.args.tree.now s.args.set) s.args.tree.now s.args.set s.args.depth p.polled.result x l.loop.words l.loop.history) c.before.before.before.before.before.before.child.ensures))
               ∙ l.loop.invariant.1.1.1,
         ),
       ),
@@ -123,7 +123,7 @@ returns-2 : tie.Need-returns-2 invariant-loop decreases-loop
 returns-2 c =
     let l = c.before in
     let s = c.before.before.before.before.before.before.before in
-    sym (walk-over (nodeSearch s.args.tree.now s.args.set) s.args.tree.now s.args.set s.args.depth c.before.before.before.place_of.result c.before.before.before.before.child-count.result l.loop.i l.loop.w l.loop.words l.loop.history c.loop-test.false)
+    sym (walk_over (node_search s.args.tree.now s.args.set) s.args.tree.now s.args.set s.args.depth c.before.before.before.place_of.result c.before.before.before.before.child-count.result l.loop.i l.loop.w l.loop.words l.loop.history c.loop-test.false)
     ∙ l.loop.invariant.1.1.1
     ∙ whole-walk c.before.before
 

@@ -1,7 +1,7 @@
 -- `root::search_root` meets its contract: history zeroed, then the depths. Assumes nothing.
 use mathlib.Core.Path.{refl, ◌∙◌}
 use borrow.Author.Rules.{rules}
-use Rattle.visits.proofs.Asked.{still-ready}
+use Rattle.visits.proofs.Asked.{still_ready}
 use Rattle.root.proofs.Depths.{root_is}
 use Rattle.root.proofs.search_root.Statement.{statement}
 use Rattle.root.proofs.search_root.Tie as tie
@@ -15,7 +15,7 @@ fresh-requires c κs = search rules
 deepening-requires : tie.Need-deepening-requires
 deepening-requires c κs =
     let s = c.before.before.before.before.before.before.before.before in
-    (still-ready s.args.set s.args.tree.now _ _ _ _ s.requires.0 refl c.before.before.before.before.clear.auto.0, s.requires.1)
+    (still_ready s.args.set s.args.tree.now _ _ _ _ s.requires.0 refl c.before.before.before.before.clear.auto.0, s.requires.1)
 
 same_length : tie.Need-same-length
 same_length c = c.before.before.before.deepening.auto.1.0

@@ -6,8 +6,8 @@ use mir.Val.{SFits}
 use mir.Facts.{to_z-of_z}
 use Rattle.score.specs.Wrap.{neg16}
 use Rattle.score.proofs.Bits.{said}
-use Rattle.tree.proofs.Blocked.{record-in}
-use Rattle.root_steps.proofs.Steps.{judge-up, judge-low}
+use Rattle.tree.proofs.Blocked.{record_in}
+use Rattle.root_steps.proofs.Steps.{judge_up, judge_low}
 use Rattle.root_steps.proofs.judge.Statement.{statement}
 use Rattle.root_steps.proofs.judge.Tie as tie
 
@@ -31,14 +31,14 @@ module _ (c : tie.After-neg16) where
   negated = said neg16 (score-fits start).sfits c.neg16.ensures
 
 move-to-requires : tie.Need-move-to-requires
-move-to-requires c κs = let s = start c.before.before.before.before in record-in s.args.tree.now s.pre.0 s.args.c s.pre.1
+move-to-requires c κs = let s = start c.before.before.before.before in record_in s.args.tree.now s.pre.0 s.args.c s.pre.1
 
 returns : tie.Need-returns
 returns c =
     let n = c.before.before.before.before.before in
     let s = start n in
     simp (to_z-of_z (fits n))
-    (judge-up s.args.tree.now s.args.w s.args.c s.args.r n.neg16.result (negated n)
+    (judge_up s.args.tree.now s.args.w s.args.c s.args.r n.neg16.result (negated n)
     (simp (to_z-of_z (alpha-fits s), to_z-of_z (fits n)) at c.before.if1.true) c.move-to.result c.move-to.ensures)
 
 returns-2 : tie.Need-returns-2
@@ -46,7 +46,7 @@ returns-2 c =
     let n = c.before.before.before.before.before in
     let s = start n in
     simp (to_z-of_z (alpha-fits s))
-    (judge-low s.args.tree.now s.args.w s.args.c s.args.r n.neg16.result (negated n)
+    (judge_low s.args.tree.now s.args.w s.args.c s.args.r n.neg16.result (negated n)
     (simp (to_z-of_z (alpha-fits s), to_z-of_z (fits n)) at c.before.if1.false))
 
 pub judge-spec : {M : Type 1} → statement M

@@ -9,8 +9,8 @@ use lib.Signed.{le_z}
 use mir.Syntax.{w16, w32}
 use mir.Val.{SFits, to_z}
 use mir.Facts.{to_z-of_z, to_z_pos, sfits_widen}
-use Rattle.tree.proofs.Within.{most-fits, least_fits}
-use Rattle.root_steps.specs.Step.{mateLine, mateOf}
+use Rattle.tree.proofs.Within.{most_fits, least_fits}
+use Rattle.root_steps.specs.Step.{mate_line, mate_of}
 use Rattle.root_steps.proofs.mate.Statement.{statement}
 use Rattle.root_steps.proofs.mate.Tie as tie
 
@@ -33,19 +33,19 @@ module _ (c : tie.After-struct-known2) where
   ply : to_z w32 start.args.set.max_ply ≡ pos start.args.set.max_ply
   ply = to_z_pos w32 (omega (arith, ply-low c))
 
-  most : SFits w32 (mateLine start.args.set)
-  most = most-fits start.args.set.inf start.args.set.max_ply (inf-fits start).sfits (ply-low c)
+  most : SFits w32 (mate_line start.args.set)
+  most = most_fits start.args.set.inf start.args.set.max_ply (inf-fits start).sfits (ply-low c)
 
-  least : SFits w32 (neg_ℤ (mateLine start.args.set))
+  least : SFits w32 (neg_ℤ (mate_line start.args.set))
   least = least_fits start.args.set.inf start.args.set.max_ply (inf-fits start).sfits (ply-low c)
 
-tested : (c : tie.Then1) → le_z c.before.before.before.before.args.score (neg_ℤ (mateLine c.before.before.before.before.args.set)) ≡ true
+tested : (c : tie.Then1) → le_z c.before.before.before.before.args.score (neg_ℤ (mate_line c.before.before.before.before.args.set)) ≡ true
 tested c =
     let k = c.before in
     let s = start k in
     simp (to_z-of_z s.fits.score, to_z-of_z (score32 s), to_z-of_z (inf-fits s), to_z-of_z (inf32 s), ply k, to_z-of_z (most k), +ℤ_idl, to_z-of_z (least k)) at c.if1.true
 
-passed : (c : tie.Else1) → le_z c.before.before.before.before.args.score (neg_ℤ (mateLine c.before.before.before.before.args.set)) ≡ false
+passed : (c : tie.Else1) → le_z c.before.before.before.before.args.score (neg_ℤ (mate_line c.before.before.before.before.args.set)) ≡ false
 passed c =
     let k = c.before in
     let s = start k in
@@ -67,11 +67,11 @@ sub-if1 : tie.Need-overflow-sub-if1
 sub-if1 c = let s = start c in simp (to_z-of_z (inf-fits s), to_z-of_z (inf32 s), ply c, to_z-of_z (most c), +ℤ_idl) (least c)
 
 returns : tie.Need-returns
-unfolding mateOf
+unfolding mate_of
 returns c = rw (tested c)
 
 returns-2 : tie.Need-returns-2
-unfolding mateOf
+unfolding mate_of
 returns-2 c =
     let k = c.before in
     let s = start k in

@@ -3,7 +3,7 @@ use mathlib.Core.Path.{ap, ◌∙◌}
 use borrow.Author.Rules.{rules}
 use Rattle.state.specs.State.{over}
 use Rattle.root_steps.specs.declared.Depths.{Depths}
-use Rattle.root_steps.proofs.Steps.{saved-none, saved-first, saved-stopped, saved-kept}
+use Rattle.root_steps.proofs.Steps.{saved_none, saved_first, saved_stopped, saved_kept}
 use Rattle.root_steps.proofs.saved.Statement.{statement}
 use Rattle.root_steps.proofs.saved.Tie as tie
 
@@ -14,7 +14,7 @@ returns : tie.Need-returns
 returns c =
     let s = c.before.before.before.before.before.before.before in
     ap (λ (x : Depths). over x s.args.words.now) c.shifted.ensures
-    ∙ saved-none s.args.tree.now s.args.set s.args.d s.args.depth s.args.w s.args.words.now c.before.if1.true
+    ∙ saved_none s.args.tree.now s.args.set s.args.d s.args.depth s.args.w s.args.words.now c.before.if1.true
 
 keep-best-requires : tie.Need-keep-best-requires
 keep-best-requires c κs = search rules
@@ -26,7 +26,7 @@ returns-2 : tie.Need-returns-2
 returns-2 c =
     let s = c.before.before.before.before.before.before.before.before.before.before.before in
     c.before.before.keep-best.ensures
-    ∙ saved-first s.args.tree.now s.args.set s.args.d s.args.depth s.args.w s.args.words.now c.before.before.before.before.before.if1.false c.before.before.before.before.if2.true
+    ∙ saved_first s.args.tree.now s.args.set s.args.d s.args.depth s.args.w s.args.words.now c.before.before.before.before.before.if1.false c.before.before.before.before.if2.true
 
 poll-requires : tie.Need-poll-requires
 poll-requires c κs = search rules
@@ -39,7 +39,7 @@ returns-3 c =
     let p = c.before.before in
     let s = c.before.before.before.before.before.before.before.before.before.before in
     ap (λ (x : Depths). over x s.args.words.now) c.shifted2.ensures
-    ∙ saved-stopped s.args.tree.now s.args.set s.args.d s.args.depth s.args.w s.args.words.now c.before.before.before.before.if1.false c.before.before.before.if2.false
+    ∙ saved_stopped s.args.tree.now s.args.set s.args.d s.args.depth s.args.w s.args.words.now c.before.before.before.before.if1.false c.before.before.before.if2.false
     p.poll.result p.poll.ensures c.before.if3.true
 
 keep-best-requires-2 : tie.Need-keep-best-requires-2
@@ -53,7 +53,7 @@ returns-4 c =
     let p = c.before.before.before.before.before in
     let s = c.before.before.before.before.before.before.before.before.before.before.before.before.before in
     c.before.before.keep-best2.ensures
-    ∙ saved-kept s.args.tree.now s.args.set s.args.d s.args.depth s.args.w s.args.words.now c.before.before.before.before.before.before.before.if1.false c.before.before.before.before.before.before.if2.false
+    ∙ saved_kept s.args.tree.now s.args.set s.args.d s.args.depth s.args.w s.args.words.now c.before.before.before.before.before.before.before.if1.false c.before.before.before.before.before.before.if2.false
     p.poll.result p.poll.ensures c.before.before.before.before.if3.false
 
 pub saved-spec : {M : Type 1} → statement M

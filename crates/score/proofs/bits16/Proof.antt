@@ -8,7 +8,7 @@ use lib.Signed.{mag, lt_z, non_neg}
 use mir.Syntax.{w8, w16, w32}
 use mir.Val.{SFits, Fits, of_z, to_z}
 use mir.Facts.{to_z-of_z, sfits_widen, Fits-nat_abs}
-use Rattle.score.proofs.Bits.{below-zero, neg-ofZ, not_neg}
+use Rattle.score.proofs.Bits.{below_zero, neg_of_z, not_neg}
 use Rattle.score.proofs.Cases.{holds, fails}
 use Rattle.score.proofs.bits16.Statement.{statement}
 use Rattle.score.proofs.bits16.Tie as tie
@@ -21,7 +21,7 @@ module _ (c : tie.Then1) where
   a32 = sfits_widen tt c.before.ranges.a
 
   sum : c.before.args.a +ℤ pos 65536 ≡ pos (65536 - suc (mag c.before.args.a))
-  sum = below-zero c.before.args.a 65536 neg (omega (arith, c.before.ranges.a.sfits))
+  sum = below_zero c.before.args.a 65536 neg (omega (arith, c.before.ranges.a.sfits))
 
   sum32 : SFits w32 (pos (65536 - suc (mag c.before.args.a)))
   sum32 = record { sfits = omega arith }
@@ -43,7 +43,7 @@ cast-result-3 c =
 
 returns : tie.Need-returns
 returns c =
-    simp (to_z-of_z c.before.ranges.a, to_z-of_z (a32 c), sum c, to_z-of_z (sum32 c)) (sym (neg-ofZ w16 c.before.args.a (neg c)))
+    simp (to_z-of_z c.before.ranges.a, to_z-of_z (a32 c), sum c, to_z-of_z (sum32 c)) (sym (neg_of_z w16 c.before.args.a (neg c)))
 
 returns-2 : tie.Need-returns-2
 returns-2 c =

@@ -6,7 +6,7 @@ use lib.IntN.{pos, neg_ℤ, ◌-ℤ◌, +ℤ_idl}
 use mir.Syntax.{w16, w32}
 use mir.Val.{SFits}
 use mir.Facts.{to_z-of_z, sfits_widen, sfits_lit}
-use Rattle.score.proofs.Wrapping.{sub-mag'}
+use Rattle.score.proofs.Wrapping.{sub_mag'}
 use Rattle.score.specs.Wrap.{wrap16, neg16}
 use Rattle.score.proofs.neg16.Statement.{statement}
 use Rattle.score.proofs.neg16.Tie as tie
@@ -16,7 +16,7 @@ module _ (c : tie.Start) where
   a32 = sfits_widen tt c.ranges.a
 
   r32 : SFits w32 (pos 0 -ℤ c.args.a)
-  r32 = record { sfits = omega (arith, sub-mag' (pos 0) c.args.a (omega arith) c.ranges.a.sfits) }
+  r32 = record { sfits = omega (arith, sub_mag' (pos 0) c.args.a (omega arith) c.ranges.a.sfits) }
 
 cast-wrap : tie.Need-overflow-cast-wrap
 cast-wrap c = simp (to_z-of_z c.ranges.a) (a32 c)
@@ -27,7 +27,7 @@ sub-wrap c = simp (to_z-of_z c.ranges.a, to_z-of_z (a32 c)) (r32 c)
 wrap-requires : tie.Need-wrap-requires
 wrap-requires c κs =
     simp (to_z-of_z c.ranges.a, to_z-of_z (a32 c), to_z-of_z (r32 c))
-    (sub-mag' (pos 0) c.args.a (omega arith) c.ranges.a.sfits)
+    (sub_mag' (pos 0) c.args.a (omega arith) c.ranges.a.sfits)
 
 returns : tie.Need-returns
 unfolding neg16

@@ -7,13 +7,13 @@ use lib.IntN.{pos, negsuc, ◌-ℤ◌}
 use mir.Syntax.{w8, w16, w32}
 use mir.Val.{SFits, to_z}
 use mir.Facts.{to_z-of_z, to_z_pos, sfits_widen}
-use Rattle.score.proofs.Bits.{drop-full, toZ-big}
+use Rattle.score.proofs.Bits.{drop_full, to_z_big}
 use Rattle.score.proofs.of_bits8.Statement.{statement}
 use Rattle.score.proofs.of_bits8.Tie as tie
 
 module _ (c : tie.Else1) where
   dif : pos c.before.args.b -ℤ pos 256 ≡ negsuc (256 - suc c.before.args.b)
-  dif = drop-full c.before.args.b 256 c.before.ranges.b.fits
+  dif = drop_full c.before.args.b 256 c.before.ranges.b.fits
 
   neg : SFits w8 (negsuc (256 - suc c.before.args.b))
   neg = record { sfits = omega arith }
@@ -39,7 +39,7 @@ returns c = search rules
 returns-2 : tie.Need-returns-2
 returns-2 c =
     simp (b32 c, dif c, to_z-of_z (sfits_widen {w' = w32} tt (neg c)), to_z-of_z (neg c))
-    (sym (toZ-big w8 c.before.args.b c.if1.false))
+    (sym (to_z_big w8 c.before.args.b c.if1.false))
 
 pub of-bits8-spec : {M : Type 1} → statement M
 of-bits8-spec = tie.close (tie.spec cast-result cast-result-2 sub-result cast-result-3 returns returns-2)

@@ -6,7 +6,7 @@ use lib.IntN.{◌-ℤ◌}
 use mir.Syntax.{w16, w32}
 use mir.Val.{SFits}
 use mir.Facts.{to_z-of_z, sfits_widen}
-use Rattle.score.proofs.Wrapping.{sub-mag'}
+use Rattle.score.proofs.Wrapping.{sub_mag'}
 use Rattle.score.specs.Wrap.{sub16}
 use Rattle.score.proofs.sub16.Statement.{statement}
 use Rattle.score.proofs.sub16.Tie as tie
@@ -19,7 +19,7 @@ module _ (c : tie.Start) where
   b32 = sfits_widen tt c.ranges.b
 
   r32 : SFits w32 (c.args.a -ℤ c.args.b)
-  r32 = record { sfits = omega (arith, sub-mag' c.args.a c.args.b c.ranges.a.sfits c.ranges.b.sfits) }
+  r32 = record { sfits = omega (arith, sub_mag' c.args.a c.args.b c.ranges.a.sfits c.ranges.b.sfits) }
 
 cast-wrap : tie.Need-overflow-cast-wrap
 cast-wrap c = simp (to_z-of_z c.ranges.a) (a32 c)
@@ -33,7 +33,7 @@ sub-wrap c = simp (to_z-of_z c.ranges.a, to_z-of_z c.ranges.b, to_z-of_z (a32 c)
 wrap-requires : tie.Need-wrap-requires
 wrap-requires c κs =
     simp (to_z-of_z c.ranges.a, to_z-of_z c.ranges.b, to_z-of_z (a32 c), to_z-of_z (b32 c), to_z-of_z (r32 c))
-    (sub-mag' c.args.a c.args.b c.ranges.a.sfits c.ranges.b.sfits)
+    (sub_mag' c.args.a c.args.b c.ranges.a.sfits c.ranges.b.sfits)
 
 returns : tie.Need-returns
 unfolding sub16

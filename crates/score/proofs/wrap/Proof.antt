@@ -7,7 +7,7 @@ use lib.Signed.{mag, lt_z}
 use mir.Syntax.{w16, w32}
 use mir.Val.{SFits}
 use mir.Facts.{to_z-of_z, sfits_widen}
-use Rattle.score.proofs.Wrapping.{wrap-hi, wrap-lo, wrap-mid, mid-mag}
+use Rattle.score.proofs.Wrapping.{wrap_hi, wrap_lo, wrap_mid, mid_mag}
 use Rattle.score.proofs.Cases.{holds, fails}
 use Rattle.score.specs.Wrap.{wrap16}
 use Rattle.score.proofs.wrap.Statement.{statement}
@@ -15,14 +15,14 @@ use Rattle.score.proofs.wrap.Tie as tie
 
 module _ (c : tie.Then1) where
   hi : (wrap16 c.before.args.s ≡ c.before.args.s -ℤ pos 65536) × (mag (c.before.args.s -ℤ pos 65536) < 32768)
-  hi = wrap-hi c.before.args.s (holds (simp (to_z-of_z c.before.ranges.s) at c.if1.true)) c.before.requires
+  hi = wrap_hi c.before.args.s (holds (simp (to_z-of_z c.before.ranges.s) at c.if1.true)) c.before.requires
 
   hi16 : SFits w16 (c.before.args.s -ℤ pos 65536)
   hi16 = record { sfits = hi.1 }
 
 module _ (c : tie.Then2) where
   lo : (wrap16 c.before.before.args.s ≡ c.before.before.args.s +ℤ pos 65536) × (mag (c.before.before.args.s +ℤ pos 65536) < 32768)
-  lo = wrap-lo c.before.before.args.s (holds (simp (to_z-of_z c.before.before.ranges.s) at c.if2.true)) c.before.before.requires
+  lo = wrap_lo c.before.before.args.s (holds (simp (to_z-of_z c.before.before.ranges.s) at c.if2.true)) c.before.before.requires
 
   lo16 : SFits w16 (c.before.before.args.s +ℤ pos 65536)
   lo16 = record { sfits = lo.1 }
@@ -30,7 +30,7 @@ module _ (c : tie.Then2) where
 module _ (c : tie.Else2) where
   mid : mag c.before.before.args.s < 32768
   mid =
-      mid-mag c.before.before.args.s (fails (simp (to_z-of_z c.before.before.ranges.s) at c.before.if1.false))
+      mid_mag c.before.before.args.s (fails (simp (to_z-of_z c.before.before.ranges.s) at c.before.if1.false))
       (fails (simp (to_z-of_z c.before.before.ranges.s) at c.if2.false))
 
   mid16 : SFits w16 c.before.before.args.s
@@ -63,7 +63,7 @@ returns-2 c =
 
 returns-3 : tie.Need-returns-3
 returns-3 c =
-    simp (to_z-of_z c.before.before.ranges.s, to_z-of_z (mid16 c)) (sym (wrap-mid c.before.before.args.s (mid c)))
+    simp (to_z-of_z c.before.before.ranges.s, to_z-of_z (mid16 c)) (sym (wrap_mid c.before.before.args.s (mid c)))
 
 pub wrap_spec : {M : Type 1} → statement M
 wrap_spec =

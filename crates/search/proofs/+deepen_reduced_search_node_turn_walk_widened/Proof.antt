@@ -7,29 +7,29 @@ use native.Mathlib.Nat.{sub-zero}
 use native.Mathlib.Omega.{arith}
 use borrow.Author.Rules.{rules}
 use lib.ListN.{length}
-use Rattle.tree.specs.Blocks.{nodesOf}
+use Rattle.tree.specs.Blocks.{nodes_of}
 use Rattle.tree.proofs.Accepted.{count_most}
-use Rattle.tree.proofs.Blocked.{record-in}
+use Rattle.tree.proofs.Blocked.{record_in}
 use Rattle.state.specs.declared.Out.{Out}
 use Rattle.state.specs.declared.State.{State}
 use Rattle.moves.specs.declared.Place.{Place}
 use Rattle.moves.specs.Kid.{Kid}
-use Rattle.moves.specs.Order.{childOf}
-use Rattle.moves.proofs.Kids.{blocked, laid, level-low}
+use Rattle.moves.specs.Order.{child_of}
+use Rattle.moves.proofs.Kids.{blocked, laid, level_low}
 use Rattle.captures.specs.Reach as captures
-use Rattle.captures.specs.Captures.{capturesF}
+use Rattle.captures.specs.Captures.{captures_f}
 use Rattle.capture_steps.specs.declared.Capture.{Capture}
 use Rattle.carry.specs.declared.Args.{Args}
 use Rattle.carry.specs.declared.Loc.{Loc}
 use Rattle.carry.specs.declared.Turn.{Turn}
 use Rattle.carry.specs.Carry.{with, beside}
-use Rattle.leave.specs.Cutoff.{cutoffOf}
-use Rattle.turn.specs.Window.{judgeOf}
+use Rattle.leave.specs.Cutoff.{cutoff_of}
+use Rattle.turn.specs.Window.{judge_of}
 use Rattle.visits.specs.Reach.{Reach, Inside, need}
-use Rattle.visits.specs.Search.{visitF, walkF, turnF}
-use Rattle.visits.proofs.Turns.{widen-yes, widen-no, reduced-again, reduced-once, turn-first, turn-futile, turn-reduced, walk-next, walk-cut, walk-over}
-use Rattle.visits.proofs.Visits.{deepen-yes, deepen-no, visit-stop, visit-captures, visit-answer, visit-moves}
-use Rattle.visits.proofs.Asked.{Same, Stays, still-ready, same_after, most-after, enter-stays, inside, to-captures, deep-enough, to_inner, to-full, to-null, kid_at, reduction-most}
+use Rattle.visits.specs.Search.{visit_f, walk_f, turn_f}
+use Rattle.visits.proofs.Turns.{widen_yes, widen_no, reduced_again, reduced_once, turn_first, turn_futile, turn_reduced, walk_next, walk_cut, walk_over}
+use Rattle.visits.proofs.Visits.{deepen_yes, deepen_no, visit_stop, visit_captures, visit_answer, visit_moves}
+use Rattle.visits.proofs.Asked.{Same, Stays, still_ready, same_after, most_after, enter_stays, inside, to_captures, deep_enough, to_inner, to_full, to_null, kid_at, reduction_most}
 use borrow.Fn.Kinds.{In}
 use borrow.Fn.PlainCycle.{Measures, is, falls, and}
 use Rattle.search.proofs.deepen.Reads as deepen
@@ -81,22 +81,22 @@ use Rattle.search.proofs.+deepen_reduced_search_node_turn_walk_widened.{statemen
 use Rattle.search.proofs.+deepen_reduced_search_node_turn_walk_widened.Tie.{close}
 
 abbrev μ-deepen : Measures 3 deepen-kinds.ps ℕ
-μ-deepen κs a = 8 * ((nodesOf a.0.now - a.1.1.1.1.0.node) * 64 + (a.1.1.1.1.0.depth - 1)) + 4
+μ-deepen κs a = 8 * ((nodes_of a.0.now - a.1.1.1.1.0.node) * 64 + (a.1.1.1.1.0.depth - 1)) + 4
 
 abbrev μ-reduced : Measures 3 reduced-kinds.ps ℕ
-μ-reduced κs a = 8 * ((nodesOf a.0.now - a.1.1.1.1.0.node) * 64) + 1
+μ-reduced κs a = 8 * ((nodes_of a.0.now - a.1.1.1.1.0.node) * 64) + 1
 
 abbrev μ-search-node : Measures 3 search-node-kinds.ps ℕ
-μ-search-node κs a = 8 * ((nodesOf a.0.now - a.1.1.1.1.1.0.node) * 64 + a.1.1.1.1.1.0.depth) + 5
+μ-search-node κs a = 8 * ((nodes_of a.0.now - a.1.1.1.1.1.0.node) * 64 + a.1.1.1.1.1.0.depth) + 5
 
 abbrev μ-turn : Measures 3 turn-kinds.ps ℕ
-μ-turn κs a = 8 * ((nodesOf a.0.now - a.1.1.1.1.0.node) * 64) + 2
+μ-turn κs a = 8 * ((nodes_of a.0.now - a.1.1.1.1.0.node) * 64) + 2
 
 abbrev μ-walk : Measures 3 walk-kinds.ps ℕ
-μ-walk κs a = 8 * ((nodesOf a.0.now - a.1.1.1.1.0.node) * 64) + 3
+μ-walk κs a = 8 * ((nodes_of a.0.now - a.1.1.1.1.0.node) * 64) + 3
 
 abbrev μ-widened : Measures 3 widened-kinds.ps ℕ
-μ-widened κs a = 8 * ((nodesOf a.0.now - a.1.1.1.1.0.node) * 64)
+μ-widened κs a = 8 * ((nodes_of a.0.now - a.1.1.1.1.0.node) * 64)
 
 abbrev deepen-at : ℕ → In 3 deepen-kinds.ps
 deepen-at t = and 3 deepen-kinds.ps (is 3 deepen-kinds.ps μ-deepen t) deepen.Pre
@@ -237,7 +237,7 @@ deepen-inner-requires t c κs =
     let s = c.before.before.before.before.before.before.before in
     let deepens = c.before.before.before.before.deepens in
     let if1 = c.before.before.before.if1 in
-    let d = deep-enough s.args.set s.args.here s.args.loc (sym deepens.ensures ∙ if1.true) in omega arith
+    let d = deep_enough s.args.set s.args.here s.args.loc (sym deepens.ensures ∙ if1.true) in omega arith
 
 deepen-search-node-requires : (t : ℕ) → deepen-lts.Need-search-node-requires (deepen-calls t) (deepen-at t) deepen.Post
 deepen-search-node-requires t c κs =
@@ -248,7 +248,7 @@ deepen-search-node-requires t c κs =
     let tree = s.args.tree.now in
     let deepens = c.before.before.before.before.before.deepens in
     let if1 = c.before.before.before.before.if1 in
-    let d = deep-enough set here loc (sym deepens.ensures ∙ if1.true) in
+    let d = deep_enough set here loc (sym deepens.ensures ∙ if1.true) in
     let e = c.inner.ensures in
     let en : c.inner.result.node ≡ here.node = ap (λ (x : Args). x.node) e in
     let ed : c.inner.result.depth ≡ here.depth - 2 = ap (λ (x : Args). x.depth) e in
@@ -261,7 +261,7 @@ deepen-hinted-requires t c κs =
     let tree = s.args.tree.now in
     let search-node = c.before.before.before.before.search-node in
     let r = s.requires.1.0 in
-    (blocked set tree r.accepted, (s.requires.1.1.in-tree, omega (arith, search-node.auto.1.0, r.words-least)))
+    (blocked set tree r.accepted, (s.requires.1.1.in_tree, omega (arith, search-node.auto.1.0, r.words_least)))
 
 deepen-same-length : (t : ℕ) → deepen-lts.Need-same-length (deepen-calls t) (deepen-at t) deepen.Post
 deepen-same-length t c = c.before.before.before.before.before.search-node.auto.1.0
@@ -282,13 +282,13 @@ deepen-returns t c =
     let if1 = c.before.before.before.before.before.before.before.before.before.before.if1 in
     let inner = c.before.before.before.before.before.before.inner in
     let search-node = c.before.before.before.before.before.search-node in
-    let d = deep-enough set here loc (sym deepens.ensures ∙ if1.true) in
+    let d = deep_enough set here loc (sym deepens.ensures ∙ if1.true) in
     let e = inner.ensures in
     let en : inner.result.node ≡ here.node = ap (λ (x : Args). x.node) e in
     let ed : inner.result.depth ≡ here.depth - 2 = ap (λ (x : Args). x.depth) e in
     λ k h. ap (λ (x : Loc). with x search-node.new.1.0 search-node.new.1.1.0) c.hinted.ensures
-    ∙ deepen-yes (visitF k tree set) tree set here loc words history (sym deepens.ensures ∙ if1.true) _
-    (search-node.ensures k (omega (arith, h)) ∙ ap (visitF k tree set loc.state words history) e)
+    ∙ deepen_yes (visit_f k tree set) tree set here loc words history (sym deepens.ensures ∙ if1.true) _
+    (search-node.ensures k (omega (arith, h)) ∙ ap (visit_f k tree set loc.state words history) e)
 
 deepen-returns-2 : (t : ℕ) → deepen-lts.Need-returns-2 (deepen-calls t) (deepen-at t) deepen.Post
 deepen-returns-2 t c =
@@ -300,7 +300,7 @@ deepen-returns-2 t c =
     let words = s.args.words.now in
     let history = s.args.history.now in
     let deepens = c.before.deepens in
-    λ k h. deepen-no (visitF k tree set) tree set here loc words history (sym deepens.ensures ∙ c.if1.false)
+    λ k h. deepen_no (visit_f k tree set) tree set here loc words history (sym deepens.ensures ∙ c.if1.false)
 
 reduced-null-requires : (t : ℕ) → reduced-lts.Need-null-requires (reduced-calls t) (reduced-at t) reduced.Post
 reduced-null-requires t c κs =
@@ -309,7 +309,7 @@ reduced-null-requires t c κs =
     let tree = s.args.tree.now in
     let here = s.args.here in
     let i = s.requires.1.1.0 in
-    (i.side-most, (s.requires.1.1.1.1, omega (arith, i.ply-most, level-low set tree s.requires.1.0.accepted here.node)))
+    (i.side_most, (s.requires.1.1.1.1, omega (arith, i.ply_most, level_low set tree s.requires.1.0.accepted here.node)))
 
 reduced-search-node-requires : (t : ℕ) → reduced-lts.Need-search-node-requires (reduced-calls t) (reduced-at t) reduced.Post
 reduced-search-node-requires t c κs =
@@ -324,7 +324,7 @@ reduced-search-node-requires t c κs =
     let e = c.null.ensures in
     let en : c.null.result.node ≡ child = ap (λ (x : Args). x.node) e in
     let ed : c.null.result.depth ≡ here.depth - 1 - d = ap (λ (x : Args). x.depth) e in
-    (omega (arith, s.requires.0, g.above, g.in-tree, i.depth-most), (s.requires.1.0, subst (Reach tree) (sym e) (to-null tree here loc child i g d)))
+    (omega (arith, s.requires.0, g.above, g.in_tree, i.depth_most), (s.requires.1.0, subst (Reach tree) (sym e) (to_null tree here loc child i g d)))
 
 reduced-again-requires : (t : ℕ) → reduced-lts.Need-again-requires (reduced-calls t) (reduced-at t) reduced.Post
 reduced-again-requires t c κs = tt
@@ -336,7 +336,7 @@ reduced-null-requires-2 t c κs =
     let tree = s.args.tree.now in
     let here = s.args.here in
     let i = s.requires.1.1.0 in
-    (i.side-most, (i.depth-least, omega (arith, i.ply-most, level-low set tree s.requires.1.0.accepted here.node)))
+    (i.side_most, (i.depth_least, omega (arith, i.ply_most, level_low set tree s.requires.1.0.accepted here.node)))
 
 reduced-search-node-requires-2 : (t : ℕ) → reduced-lts.Need-search-node-requires-2 (reduced-calls t) (reduced-at t) reduced.Post
 reduced-search-node-requires-2 t c κs =
@@ -352,8 +352,8 @@ reduced-search-node-requires-2 t c κs =
     let e = c.null2.ensures in
     let en : c.null2.result.node ≡ child = ap (λ (x : Args). x.node) e in
     let ed : c.null2.result.depth ≡ here.depth - 1 - 0 = ap (λ (x : Args). x.depth) e in
-    let reach = subst (Reach tree) (sym e) (to-null tree here s.args.loc child i g 0) in
-    (omega (arith, s.requires.0, g.above, g.in-tree, i.depth-most), (still-ready set tree _ _ _ _ s.requires.1.0 kept.1.0 kept.1.1.0, reach))
+    let reach = subst (Reach tree) (sym e) (to_null tree here s.args.loc child i g 0) in
+    (omega (arith, s.requires.0, g.above, g.in_tree, i.depth_most), (still_ready set tree _ _ _ _ s.requires.1.0 kept.1.0 kept.1.1.0, reach))
 
 reduced-widened-requires : (t : ℕ) → reduced-lts.Need-widened-requires (reduced-calls t) (reduced-at t) reduced.Post
 reduced-widened-requires t c κs =
@@ -366,7 +366,7 @@ reduced-widened-requires t c κs =
     let history = again.1.1.0 ∙ first.1.1.0 in
     let set = s.args.set in
     let tree = s.args.tree.now in
-    (omega (arith, s.requires.0), (still-ready set tree _ _ _ _ s.requires.1.0 words history, (s.requires.1.1.0, s.requires.1.1.1.0)))
+    (omega (arith, s.requires.0), (still_ready set tree _ _ _ _ s.requires.1.0 words history, (s.requires.1.1.0, s.requires.1.1.1.0)))
 
 reduced-same-length : (t : ℕ) → reduced-lts.Need-same-length (reduced-calls t) (reduced-at t) reduced.Post
 reduced-same-length t c =
@@ -407,11 +407,11 @@ reduced-returns t c =
     let en2 : null2.result.node ≡ child = ap (λ (x : Args). x.node) e2 in
     let ed2 : null2.result.depth ≡ here.depth - 1 - 0 = ap (λ (x : Args). x.depth) e2 in
     λ k h. c.before.before.before.widened.ensures k h
-    ∙ reduced-again (visitF k tree set) here loc child d words history _
-    (search-node.ensures k (omega (arith, h, g.above, g.in-tree, i.depth-most)) ∙ ap (visitF k tree set loc.state words history) e)
+    ∙ reduced_again (visit_f k tree set) here loc child d words history _
+    (search-node.ensures k (omega (arith, h, g.above, g.in_tree, i.depth_most)) ∙ ap (visit_f k tree set loc.state words history) e)
     (sym later.before.again.ensures ∙ later.if1.true) _
-    (search-node2.ensures k (omega (arith, h, g.above, g.in-tree, i.depth-most))
-    ∙ ap (visitF k tree set search-node.result.state search-node.new.1.0 search-node.new.1.1.0) e2)
+    (search-node2.ensures k (omega (arith, h, g.above, g.in_tree, i.depth_most))
+    ∙ ap (visit_f k tree set search-node.result.state search-node.new.1.0 search-node.new.1.1.0) e2)
 
 reduced-widened-requires-2 : (t : ℕ) → reduced-lts.Need-widened-requires-2 (reduced-calls t) (reduced-at t) reduced.Post
 reduced-widened-requires-2 t c κs =
@@ -420,7 +420,7 @@ reduced-widened-requires-2 t c κs =
     let kept = p.search-node.auto in
     let set = s.args.set in
     let tree = s.args.tree.now in
-    (omega (arith, s.requires.0), (still-ready set tree _ _ _ _ s.requires.1.0 kept.1.0 kept.1.1.0, (s.requires.1.1.0, s.requires.1.1.1.0)))
+    (omega (arith, s.requires.0), (still_ready set tree _ _ _ _ s.requires.1.0 kept.1.0 kept.1.1.0, (s.requires.1.1.0, s.requires.1.1.1.0)))
 
 reduced-same-length-3 : (t : ℕ) → reduced-lts.Need-same-length-3 (reduced-calls t) (reduced-at t) reduced.Post
 reduced-same-length-3 t c =
@@ -453,8 +453,8 @@ reduced-returns-2 t c =
     let en : null.result.node ≡ child = ap (λ (x : Args). x.node) e in
     let ed : null.result.depth ≡ here.depth - 1 - d = ap (λ (x : Args). x.depth) e in
     λ k h. c.before.before.before.widened2.ensures k h
-    ∙ reduced-once (visitF k tree set) here loc child d words history _
-    (search-node.ensures k (omega (arith, h, g.above, g.in-tree, i.depth-most)) ∙ ap (visitF k tree set loc.state words history) e)
+    ∙ reduced_once (visit_f k tree set) here loc child d words history _
+    (search-node.ensures k (omega (arith, h, g.above, g.in_tree, i.depth_most)) ∙ ap (visit_f k tree set loc.state words history) e)
     (sym later.before.again.ensures ∙ later.if1.false)
 
 search-node-poll-requires : (t : ℕ) → search-node-lts.Need-poll-requires (search-node-calls t) (search-node-at t) search-node.Post
@@ -471,12 +471,12 @@ search-node-returns t c =
     let tree = s.args.tree.now in
     let poll = c.before.before.poll in
     λ k h. ap (λ (x : Out). with x words history) c.answer.ensures
-    ∙ visit-stop k _ tree s.args.set s.args.st poll.result words history s.args.a h poll.ensures c.before.if1.true
+    ∙ visit_stop k _ tree s.args.set s.args.st poll.result words history s.args.a h poll.ensures c.before.if1.true
 
 search-node-extend-requires : (t : ℕ) → search-node-lts.Need-extend-requires (search-node-calls t) (search-node-at t) search-node.Post
 search-node-extend-requires t c κs =
     let s = c.before.before.before.before in
-    (blocked s.args.set s.args.tree.now s.requires.1.0.accepted, (s.requires.1.1.in-tree, s.requires.1.1.depth-most))
+    (blocked s.args.set s.args.tree.now s.requires.1.0.accepted, (s.requires.1.1.in_tree, s.requires.1.1.depth_most))
 
 search-node-rebuilt-requires : (t : ℕ) → search-node-lts.Need-rebuilt-requires (search-node-calls t) (search-node-at t) search-node.Post
 search-node-rebuilt-requires t c κs = tt
@@ -485,17 +485,17 @@ search-node-capture-of-requires : (t : ℕ) → search-node-lts.Need-capture-of-
 search-node-capture-of-requires t c κs =
     let s = c.before.before.before.before.before.before.before.before in
     let extend = c.before.before.before.extend in
-    let r = to-captures s.args.tree.now s.args.a extend.result extend.ensures s.requires.1.1 in
-    omega (arith, r.ply-least, level-low s.args.set s.args.tree.now s.requires.1.0.accepted extend.result.node)
+    let r = to_captures s.args.tree.now s.args.a extend.result extend.ensures s.requires.1.1 in
+    omega (arith, r.ply_least, level_low s.args.set s.args.tree.now s.requires.1.0.accepted extend.result.node)
 
 search-node-captures-requires : (t : ℕ) → search-node-lts.Need-captures-requires (search-node-calls t) (search-node-at t) search-node.Post
 search-node-captures-requires t c κs =
     let s = c.before.before.before.before.before.before.before.before.before in
     let tree = s.args.tree.now in
     let extend = c.before.before.before.before.extend in
-    let reach = to-captures tree s.args.a extend.result extend.ensures s.requires.1.1 in
+    let reach = to_captures tree s.args.a extend.result extend.ensures s.requires.1.1 in
     let asked = subst (λ (x : Capture). captures.Reach tree x.node x.below x.ply) (sym c.capture-of.ensures) reach in
-    (s.requires.1.0.accepted, (asked, s.requires.1.0.words-least))
+    (s.requires.1.0.accepted, (asked, s.requires.1.0.words_least))
 
 search-node-same-length : (t : ℕ) → search-node-lts.Need-same-length (search-node-calls t) (search-node-at t) search-node.Post
 search-node-same-length t c = c.before.before.captures.auto.1.0
@@ -514,10 +514,10 @@ search-node-returns-2 t c =
     let capture-of = c.before.before.before.capture-of in
     let same = same_after tree a extend.result extend.ensures in
     let en : capture-of.result.node ≡ extend.result.node = ap (λ (x : Capture). x.node) capture-of.ensures in
-    λ k h. visit-captures k _ tree set s.args.st poll.result words history a h poll.ensures p.before.if1.false
+    λ k h. visit_captures k _ tree set s.args.st poll.result words history a h poll.ensures p.before.if1.false
     extend.result extend.ensures c.before.before.before.before.before.before.if2.true _
     (c.before.before.captures.ensures k (omega (arith, h, same.0))
-    ∙ ap₂ (λ (x : State) (y : Capture). capturesF k set tree x words y) c.before.before.before.before.rebuilt.ensures capture-of.ensures)
+    ∙ ap₂ (λ (x : State) (y : Capture). captures_f k set tree x words y) c.before.before.before.before.rebuilt.ensures capture-of.ensures)
 
 search-node-enter-requires : (t : ℕ) → search-node-lts.Need-enter-requires (search-node-calls t) (search-node-at t) search-node.Post
 search-node-enter-requires t c κs =
@@ -525,10 +525,10 @@ search-node-enter-requires t c κs =
     let s = p.before.before.before.before.before in
     let tree = s.args.tree.now in
     let same = same_after tree s.args.a p.extend.result p.extend.ensures in
-    let most = most-after tree s.args.a p.extend.result p.extend.ensures in
+    let most = most_after tree s.args.a p.extend.result p.extend.ensures in
     let r = s.requires.1.1 in
     let ready = s.requires.1.0 in
-    (blocked s.args.set tree ready.accepted, (omega (arith, r.in-tree, same.0), (omega (arith, r.depth-most, most), ready.words-least)))
+    (blocked s.args.set tree ready.accepted, (omega (arith, r.in_tree, same.0), (omega (arith, r.depth_most, most), ready.words_least)))
 
 search-node-enum-known-e : (t : ℕ) → search-node-lts.Need-enum-known-e (search-node-calls t) (search-node-at t) search-node.Post
 search-node-enum-known-e t c = search rules
@@ -548,12 +548,12 @@ module _ (t : ℕ) (p : search-node-lts.After-e2 (search-node-calls t) (search-n
   longer-same = same_after asked.args.tree.now asked.args.a longer p.before.before.before.before.before.extend.ensures
 
   longer-most : longer.depth ≤ asked.args.a.depth + 1
-  longer-most = most-after asked.args.tree.now asked.args.a longer p.before.before.before.before.before.extend.ensures
+  longer-most = most_after asked.args.tree.now asked.args.a longer p.before.before.before.before.before.extend.ensures
 
   -- its moves are made at the node, the side, the depth and the ply that it was asked for
   stays : Stays longer p.e2.given.0.0
   stays =
-      enter-stays asked.args.set asked.args.tree.now asked.args.words.now
+      enter_stays asked.args.set asked.args.tree.now asked.args.words.now
       p.before.before.before.before.before.before.before.poll.result longer _ _
       (sym p.e2.given.1 ∙ p.before.before.enter.ensures)
 
@@ -579,7 +579,7 @@ search-node-walk-requires t c κs =
     let same = longer-same t p in
     let set = s.args.set in
     let tree = s.args.tree.now in
-    (omega (arith, s.pre.0, g.0, same.0), (still-ready set tree _ _ _ _ s.pre.1.0 kept.1.0 kept.1.1.0, here-inside t p))
+    (omega (arith, s.pre.0, g.0, same.0), (still_ready set tree _ _ _ _ s.pre.1.0 kept.1.0 kept.1.1.0, here-inside t p))
 
 search-node-finish-requires : (t : ℕ) → search-node-lts.Need-finish-requires (search-node-calls t) (search-node-at t) search-node.Post
 search-node-finish-requires t c κs =
@@ -589,10 +589,10 @@ search-node-finish-requires t c κs =
     let tree = s.args.tree.now in
     let r = s.pre.1.0 in
     let i = here-inside t p in
-    let low = level-low set tree r.accepted p.e2.given.0.0.node in
+    let low = level_low set tree r.accepted p.e2.given.0.0.node in
     let kept = c.before.before.before.before.before.before.before.before.before.before.deepen.auto in
     let kept2 = c.before.before.before.before.walk.auto in
-    (blocked set tree r.accepted, (i.in-tree, (omega (arith, kept.1.0, kept2.1.0, r.words-least), (i.depth-most, omega (arith, i.ply-most, low)))))
+    (blocked set tree r.accepted, (i.in_tree, (omega (arith, kept.1.0, kept2.1.0, r.words_least), (i.depth_most, omega (arith, i.ply_most, low)))))
 
 search-node-same-length-2 : (t : ℕ) → search-node-lts.Need-same-length-2 (search-node-calls t) (search-node-at t) search-node.Post
 search-node-same-length-2 t c = refl
@@ -602,7 +602,7 @@ search-node-returns-3 t c =
     let p = c.before.before.before.before.before.before in
     let s = p.before.before.before.before.before in
     let poll = p.before.before.poll in
-    λ k h. visit-answer k _ s.args.tree.now s.args.set s.args.st poll.result s.args.words.now s.args.history.now s.args.a
+    λ k h. visit_answer k _ s.args.tree.now s.args.set s.args.st poll.result s.args.words.now s.args.history.now s.args.a
     h poll.ensures p.before.if1.false p.extend.result p.extend.ensures c.before.before.before.before.before.if2.false _
     c.before.before.before.enter.ensures _ c.before.e.given.1
 
@@ -631,7 +631,7 @@ search-node-returns-4 t c =
     let same = longer-same t p in
     let most = longer-most t p in
     λ k h. ap (λ x. beside x walk.new.1.1.0) c.before.before.finish.ensures
-    ∙ visit-moves k _ s.args.tree.now s.args.set s.args.st poll.result s.args.words.now s.args.history.now s.args.a
+    ∙ visit_moves k _ s.args.tree.now s.args.set s.args.st poll.result s.args.words.now s.args.history.now s.args.a
     h poll.ensures p.before.before.before.before.before.before.if1.false (longer t p) p.before.before.before.before.before.extend.ensures
     p.before.before.before.before.if2.false _ p.before.before.enter.ensures _ _ p.e2.given.1
     (with deepen.result deepen.new.1.0 deepen.new.1.1.0) (deepen.ensures (k - 1) (omega (arith, h, g.0, same.0, g.1.1.0, most)))
@@ -646,7 +646,7 @@ turn-move-to-requires t c κs =
     let tree = s.args.tree.now in
     let set = s.args.set in
     let child = s.args.c in
-    record-in tree (blocked set tree s.requires.1.0.accepted) child s.requires.1.1.1.0.in-tree
+    record_in tree (blocked set tree s.requires.1.0.accepted) child s.requires.1.1.1.0.in_tree
 
 turn-full-requires : (t : ℕ) → turn-lts.Need-full-requires (turn-calls t) (turn_at t) turn.Post
 turn-full-requires t c κs =
@@ -655,7 +655,7 @@ turn-full-requires t c κs =
     let tree = s.args.tree.now in
     let here = s.args.here in
     let i = s.requires.1.1.0 in
-    (i.side-most, (i.depth-least, omega (arith, i.ply-most, level-low set tree s.requires.1.0.accepted here.node)))
+    (i.side_most, (i.depth_least, omega (arith, i.ply_most, level_low set tree s.requires.1.0.accepted here.node)))
 
 turn-search-node-requires : (t : ℕ) → turn-lts.Need-search-node-requires (turn-calls t) (turn_at t) turn.Post
 turn-search-node-requires t c κs =
@@ -669,12 +669,12 @@ turn-search-node-requires t c κs =
     let e = c.full.ensures in
     let en : c.full.result.node ≡ child = ap (λ (x : Args). x.node) e in
     let ed : c.full.result.depth ≡ here.depth - 1 = ap (λ (x : Args). x.depth) e in
-    (omega (arith, s.requires.0, g.above, g.in-tree, i.depth-most), (s.requires.1.0, subst (Reach tree) (sym e) (to-full tree here counted.result child i g)))
+    (omega (arith, s.requires.0, g.above, g.in_tree, i.depth_most), (s.requires.1.0, subst (Reach tree) (sym e) (to_full tree here counted.result child i g)))
 
 turn-first-requires : (t : ℕ) → turn-lts.Need-first-requires (turn-calls t) (turn_at t) turn.Post
 turn-first-requires t c κs =
     let s = c.before.before.before.before.before.before.before.before.before.before.before.before.before in
-    (blocked s.args.set s.args.tree.now s.requires.1.0.accepted, s.requires.1.1.1.0.in-tree)
+    (blocked s.args.set s.args.tree.now s.requires.1.0.accepted, s.requires.1.1.1.0.in_tree)
 
 turn-judge-requires : (t : ℕ) → turn-lts.Need-judge-requires (turn-calls t) (turn_at t) turn.Post
 turn-judge-requires t c κs = tt
@@ -708,16 +708,16 @@ turn-returns t c =
     let en : full.result.node ≡ child = ap (λ (x : Args). x.node) e in
     let ed : full.result.depth ≡ here.depth - 1 = ap (λ (x : Args). x.depth) e in
     λ k h. ap (λ (x : Turn). with x search-node.new.1.0 search-node.new.1.1.0)
-    (c.judge.ensures ∙ ap₂ (λ (x : Loc) (y : ℕ). judgeOf here x y search-node.result) first.ensures move-to.ensures)
-    ∙ turn-first (visitF k tree set) tree set here child nth loc counted.result words history counted.ensures if1.true _
-    (search-node.ensures k (omega (arith, h, g.above, g.in-tree, i.depth-most)) ∙ ap (visitF k tree set counted.result.state words history) e)
+    (c.judge.ensures ∙ ap₂ (λ (x : Loc) (y : ℕ). judge_of here x y search-node.result) first.ensures move-to.ensures)
+    ∙ turn_first (visit_f k tree set) tree set here child nth loc counted.result words history counted.ensures if1.true _
+    (search-node.ensures k (omega (arith, h, g.above, g.in_tree, i.depth_most)) ∙ ap (visit_f k tree set counted.result.state words history) e)
 
 turn-futile-requires : (t : ℕ) → turn-lts.Need-futile-requires (turn-calls t) (turn_at t) turn.Post
 turn-futile-requires t c κs =
     let s = c.before.before.before.before.before.before in
     let set = s.args.set in
     let tree = s.args.tree.now in
-    (blocked set tree s.requires.1.0.accepted, (s.requires.1.1.0.in-tree, s.requires.1.1.1.0.in-tree))
+    (blocked set tree s.requires.1.0.accepted, (s.requires.1.1.0.in_tree, s.requires.1.1.1.0.in_tree))
 
 turn-unfinished-requires : (t : ℕ) → turn-lts.Need-unfinished-requires (turn-calls t) (turn_at t) turn.Post
 turn-unfinished-requires t c κs = tt
@@ -738,7 +738,7 @@ turn-returns-2 t c =
     let futile = c.before.before.futile in
     let if2 = c.before.if2 in
     λ k h. ap (λ (x : Turn). with x words history) c.unfinished.ensures
-    ∙ turn-futile (visitF k tree set) tree set here child nth loc counted.result words history
+    ∙ turn_futile (visit_f k tree set) tree set here child nth loc counted.result words history
     counted.ensures if1.false (sym futile.ensures ∙ if2.true)
 
 turn-reduction-requires : (t : ℕ) → turn-lts.Need-reduction-requires (turn-calls t) (turn_at t) turn.Post
@@ -746,7 +746,7 @@ turn-reduction-requires t c κs =
     let s = c.before.before.before.before.before.before.before.before in
     let set = s.args.set in
     let tree = s.args.tree.now in
-    (blocked set tree s.requires.1.0.accepted, (s.requires.1.1.0.in-tree, (s.requires.1.1.1.0.in-tree, (s.requires.1.1.0.depth-least, s.requires.1.1.1.1))))
+    (blocked set tree s.requires.1.0.accepted, (s.requires.1.1.0.in_tree, (s.requires.1.1.1.0.in_tree, (s.requires.1.1.0.depth_least, s.requires.1.1.1.1))))
 
 turn-reduced-requires : (t : ℕ) → turn-lts.Need-reduced-requires (turn-calls t) (turn_at t) turn.Post
 turn-reduced-requires t c κs =
@@ -758,8 +758,8 @@ turn-reduced-requires t c κs =
     let nth = s.args.i in
     let reduction = c.before.before.reduction in
     let i = s.requires.1.1.0 in
-    let most = reduction-most tree set here child nth in
-    (omega (arith, s.requires.0), (s.requires.1.0, (i, (s.requires.1.1.1.0, omega (arith, reduction.ensures, most, i.depth-least)))))
+    let most = reduction_most tree set here child nth in
+    (omega (arith, s.requires.0), (s.requires.1.0, (i, (s.requires.1.1.1.0, omega (arith, reduction.ensures, most, i.depth_least)))))
 
 turn-judge-requires-2 : (t : ℕ) → turn-lts.Need-judge-requires-2 (turn-calls t) (turn_at t) turn.Post
 turn-judge-requires-2 t c κs = tt
@@ -790,14 +790,14 @@ turn-returns-3 t c =
     let reduction = c.before.before.before.before.before.before.before.reduction in
     let reduced = c.before.before.before.before.reduced in
     λ k h. ap (λ (x : Turn). with x reduced.new.1.0 reduced.new.1.1.0)
-    (c.judge2.ensures ∙ ap (λ (y : ℕ). judgeOf here counted.result y reduced.result) move-to.ensures)
-    ∙ turn-reduced (visitF k tree set) tree set here child nth loc counted.result words history
+    (c.judge2.ensures ∙ ap (λ (y : ℕ). judge_of here counted.result y reduced.result) move-to.ensures)
+    ∙ turn_reduced (visit_f k tree set) tree set here child nth loc counted.result words history
     counted.ensures if1.false (sym futile.ensures ∙ if2.false) _ reduction.ensures _ (reduced.ensures k h)
 
 abbrev walk-Inv-loop : walk-lts.invariant-loop
 walk-Inv-loop tree words₀ history₀ set here k n place l₀ i₀ words history l i =
     (i ≤ n) × ((length words ≡ length words₀) × ((length history ≡ length history₀) × ((k : ℕ) → need tree here.node 0 ≤ k →
-    walkF (visitF k tree set) tree set here place (n - i) i l words history ≡ walkF (visitF k tree set) tree set here place n 0 l₀ words₀ history₀)))
+    walk_f (visit_f k tree set) tree set here place (n - i) i l words history ≡ walk_f (visit_f k tree set) tree set here place n 0 l₀ words₀ history₀)))
 
 abbrev walk-μ-loop : walk-lts.decreases-loop
 walk-μ-loop tree words₀ history₀ set here k n place l₀ i₀ words history l i = n - i
@@ -808,12 +808,12 @@ walk-child-count-requires t c κs =
     let tree = s.args.tree.now in
     let set = s.args.set in
     let here = s.args.here in
-    record-in tree (blocked set tree s.requires.1.0.accepted) here.node s.requires.1.1.in-tree
+    record_in tree (blocked set tree s.requires.1.0.accepted) here.node s.requires.1.1.in_tree
 
 walk-hint-place-requires : (t : ℕ) → walk-lts.Need-hint-place-requires (walk-calls t) (walk_at t) walk.Post walk-Inv-loop walk-μ-loop
 walk-hint-place-requires t c κs =
     let s = c.before.before.before in
-    (laid s.args.set s.args.tree.now s.requires.1.0.accepted, s.requires.1.1.in-tree)
+    (laid s.args.set s.args.tree.now s.requires.1.0.accepted, s.requires.1.1.in_tree)
 
 walk-loop-holds : (t : ℕ) → walk-lts.Need-loop-init (walk-calls t) (walk_at t) walk.Post walk-Inv-loop walk-μ-loop
 walk-loop-holds t c = (omega arith, (refl, (refl, λ k h. simp sub-zero)))
@@ -824,18 +824,18 @@ module _ (t : ℕ) (p : walk-lts.At-loop (walk-calls t) (walk_at t) walk.Post wa
   walked = p.before.before.before.before.before
 
   abbrev nth-child : ℕ → ℕ
-  nth-child j = childOf walked.args.tree.now walked.args.here.node p.before.hint-place.result j
+  nth-child j = child_of walked.args.tree.now walked.args.here.node p.before.hint-place.result j
 
   walk-kid : (j : ℕ) → j < p.before.before.child-count.result → Kid walked.args.tree.now walked.args.here.node (nth-child j)
   walk-kid j lt =
       kid_at walked.args.set walked.args.tree.now walked.pre.1.0.accepted walked.args.here walked.args.loc _
-      p.before.hint-place.ensures walked.pre.1.1.in-tree j (omega (arith, lt, p.before.before.child-count.ensures))
+      p.before.hint-place.ensures walked.pre.1.1.in_tree j (omega (arith, lt, p.before.before.child-count.ensures))
 
 walk-child-requires : (t : ℕ) → walk-lts.Need-child-requires (walk-calls t) (walk_at t) walk.Post walk-Inv-loop walk-μ-loop
 walk-child-requires t c κs =
     let s = walked t c.before in
     let g = walk-kid t c.before c.before.loop.i (omega (arith, c.loop-test.true)) in
-    (blocked s.args.set s.args.tree.now s.pre.1.0.accepted, (s.pre.1.1.in-tree, g.in-tree))
+    (blocked s.args.set s.args.tree.now s.pre.1.0.accepted, (s.pre.1.1.in_tree, g.in_tree))
 
 walk-turn-requires : (t : ℕ) → walk-lts.Need-turn-requires (walk-calls t) (walk_at t) walk.Post walk-Inv-loop walk-μ-loop
 walk-turn-requires t c κs =
@@ -848,9 +848,9 @@ walk-turn-requires t c κs =
     let taken = c.before.before.before.loop-test.true in
     let inv = p.loop.invariant in
     let g = subst (Kid tree here.node) (sym c.before.before.child.ensures) (walk-kid t p p.loop.i (omega (arith, taken))) in
-    let most = count_most set.inf set.max_ply tree ok here.node s.pre.1.1.in-tree in
+    let most = count_most set.inf set.max_ply tree ok here.node s.pre.1.1.in_tree in
     let few : p.loop.i < 63 = omega (arith, taken, p.before.before.child-count.ensures, most) in
-    (omega (arith, s.pre.0), (still-ready set tree _ _ _ _ s.pre.1.0 inv.1.0 inv.1.1.0, (s.pre.1.1, (g, few))))
+    (omega (arith, s.pre.0), (still_ready set tree _ _ _ _ s.pre.1.0 inv.1.0 inv.1.1.0, (s.pre.1.1, (g, few))))
 
 walk-goes-on-requires : (t : ℕ) → walk-lts.Need-goes-on-requires (walk-calls t) (walk_at t) walk.Post walk-Inv-loop walk-μ-loop
 walk-goes-on-requires t c κs = tt
@@ -868,15 +868,15 @@ walk-cutoff-requires t c κs =
     let i = s.pre.1.1 in
     let child = c.before.before.before.before.before.before.before.before.before.before.child in
     let g = subst (Kid tree here.node) (sym child.ensures) (walk-kid t p p.loop.i (omega (arith, taken))) in
-    let history = kept.1.1.0 ∙ inv.1.1.0 ∙ r.history-length in (
+    let history = kept.1.1.0 ∙ inv.1.1.0 ∙ r.history_length in (
       blocked s.args.set tree r.accepted,
       (
-        i.in-tree,
+        i.in_tree,
         (
-          g.in-tree,
+          g.in_tree,
           (
-            λ j lt. (walk-kid t p j (omega (arith, lt, taken))).in-tree,
-            (omega (arith, kept.1.0, inv.1.0, r.words-least), (history, (i.side-most, (i.depth-most, r.hh-above)))),
+            λ j lt. (walk-kid t p j (omega (arith, lt, taken))).in_tree,
+            (omega (arith, kept.1.0, inv.1.0, r.words_least), (history, (i.side_most, (i.depth_most, r.hh_above)))),
           ),
         ),
       ),
@@ -909,13 +909,13 @@ walk-returns t c =
     let goes_on = c.before.before.before.before.before.before.before.goes_on in
     let taken = c.before.before.before.before.before.before.before.before.before.before.before.before.before.before.before.loop-test.true in
     λ k h. c.before.before.before.cutoff.ensures
-    ∙ ap₂ (λ (x : ℕ) (y : Loc). cutoffOf tree set here place.result x loop.i y words history) child.ensures goes_on.ensures
-    ∙ sym (walk-cut (visitF k tree set) tree set here place.result count.result loop.i loop.l loop.words loop.history
+    ∙ ap₂ (λ (x : ℕ) (y : Loc). cutoff_of tree set here place.result x loop.i y words history) child.ensures goes_on.ensures
+    ∙ sym (walk_cut (visit_f k tree set) tree set here place.result count.result loop.i loop.l loop.words loop.history
     (with turn.result words history) taken
-    (turn.ensures k h ∙ ap (λ (x : ℕ). turnF (visitF k tree set) tree set here x loop.i loop.l loop.words loop.history) child.ensures)
+    (turn.ensures k h ∙ ap (λ (x : ℕ). turn_f (visit_f k tree set) tree set here x loop.i loop.l loop.words loop.history) child.ensures)
     c.before.before.before.before.before.before.if1.true)
     ∙ loop.invariant.1.1.1 k h
-    ∙ ap₂ (λ (x : Place) (y : ℕ). walkF (visitF k tree set) tree set here x y 0 s.args.loc s.args.words.now s.args.history.now)
+    ∙ ap₂ (λ (x : Place) (y : ℕ). walk_f (visit_f k tree set) tree set here x y 0 s.args.loc s.args.words.now s.args.history.now)
     place.ensures count.ensures
 
 walk-add-i : (t : ℕ) → walk-lts.Need-overflow-add-i (walk-calls t) (walk_at t) walk.Post walk-Inv-loop walk-μ-loop
@@ -944,10 +944,10 @@ walk-loop-again t c =
         turn.auto.1.0 ∙ loop.invariant.1.0,
         (
           turn.auto.1.1.0 ∙ loop.invariant.1.1.0,
-          λ k h. ap (λ (x : Loc). walkF (visitF k tree set) tree set here place (n - (loop.i + 1)) (loop.i + 1) x words history) c.before.goes_on.ensures
-              ∙ sym (walk-next (visitF k tree set) tree set here place n loop.i loop.l loop.words loop.history
+          λ k h. ap (λ (x : Loc). walk_f (visit_f k tree set) tree set here place (n - (loop.i + 1)) (loop.i + 1) x words history) c.before.goes_on.ensures
+              ∙ sym (walk_next (visit_f k tree set) tree set here place n loop.i loop.l loop.words loop.history
               (with turn.result words history) taken
-              (turn.ensures k h ∙ ap (λ (x : ℕ). turnF (visitF k tree set) tree set here x loop.i loop.l loop.words loop.history) child.ensures)
+              (turn.ensures k h ∙ ap (λ (x : ℕ). turn_f (visit_f k tree set) tree set here x loop.i loop.l loop.words loop.history) child.ensures)
               c.if1.false)
               ∙ loop.invariant.1.1.1 k h,
         ),
@@ -974,10 +974,10 @@ walk-returns-2 t c =
     let count = p.before.before.child-count in
     let loop = p.loop in
     λ k h. ap (λ (x : Turn). with x loop.words loop.history) c.unfinished.ensures
-    ∙ sym (walk-over (visitF k tree set) tree set here place.result count.result loop.i loop.l loop.words loop.history
+    ∙ sym (walk_over (visit_f k tree set) tree set here place.result count.result loop.i loop.l loop.words loop.history
     c.before.loop-test.false)
     ∙ loop.invariant.1.1.1 k h
-    ∙ ap₂ (λ (x : Place) (y : ℕ). walkF (visitF k tree set) tree set here x y 0 s.args.loc s.args.words.now s.args.history.now)
+    ∙ ap₂ (λ (x : Place) (y : ℕ). walk_f (visit_f k tree set) tree set here x y 0 s.args.loc s.args.words.now s.args.history.now)
     place.ensures count.ensures
 
 widened-inside-requires : (t : ℕ) → widened-lts.Need-inside-requires (widened-calls t) (widened-at t) widened.Post
@@ -990,7 +990,7 @@ widened-full-requires t c κs =
     let tree = s.args.tree.now in
     let here = s.args.here in
     let i = s.requires.1.1.0 in
-    (i.side-most, (i.depth-least, omega (arith, i.ply-most, level-low set tree s.requires.1.0.accepted here.node)))
+    (i.side_most, (i.depth_least, omega (arith, i.ply_most, level_low set tree s.requires.1.0.accepted here.node)))
 
 widened-search-node-requires : (t : ℕ) → widened-lts.Need-search-node-requires (widened-calls t) (widened-at t) widened.Post
 widened-search-node-requires t c κs =
@@ -1004,7 +1004,7 @@ widened-search-node-requires t c κs =
     let e = c.full.ensures in
     let en : c.full.result.node ≡ child = ap (λ (x : Args). x.node) e in
     let ed : c.full.result.depth ≡ here.depth - 1 = ap (λ (x : Args). x.depth) e in
-    (omega (arith, s.requires.0, g.above, g.in-tree, i.depth-most), (s.requires.1.0, subst (Reach tree) (sym e) (to-full tree here loc child i g)))
+    (omega (arith, s.requires.0, g.above, g.in_tree, i.depth_most), (s.requires.1.0, subst (Reach tree) (sym e) (to_full tree here loc child i g)))
 
 widened-same-length : (t : ℕ) → widened-lts.Need-same-length (widened-calls t) (widened-at t) widened.Post
 widened-same-length t c = c.before.before.before.search-node.auto.1.0
@@ -1032,8 +1032,8 @@ widened-returns t c =
     let e = full.ensures in
     let en : full.result.node ≡ child = ap (λ (x : Args). x.node) e in
     let ed : full.result.depth ≡ here.depth - 1 = ap (λ (x : Args). x.depth) e in
-    λ k h. widen-yes (visitF k tree set) here loc child (with r words history) (sym inside.ensures ∙ if1.true) _
-    (search-node.ensures k (omega (arith, h, g.above, g.in-tree, i.depth-most)) ∙ ap (visitF k tree set r.state words history) e)
+    λ k h. widen_yes (visit_f k tree set) here loc child (with r words history) (sym inside.ensures ∙ if1.true) _
+    (search-node.ensures k (omega (arith, h, g.above, g.in_tree, i.depth_most)) ∙ ap (visit_f k tree set r.state words history) e)
 
 widened-returns-2 : (t : ℕ) → widened-lts.Need-returns-2 (widened-calls t) (widened-at t) widened.Post
 widened-returns-2 t c =
@@ -1047,7 +1047,7 @@ widened-returns-2 t c =
     let words = s.args.words.now in
     let history = s.args.history.now in
     let inside = c.before.inside in
-    λ k h. widen-no (visitF k tree set) here loc child (with r words history) (sym inside.ensures ∙ c.if1.false)
+    λ k h. widen_no (visit_f k tree set) here loc child (with r words history) (sym inside.ensures ∙ c.if1.false)
 
 pub +deepen-reduced-search-node-turn-walk-widened-spec : {M : Type 1} → statement M
 +deepen-reduced-search-node-turn-walk-widened-spec =

@@ -1,6 +1,6 @@
 -- `state::use_entry` meets its contract: one law for each bound and test. Assumes nothing.
 use Rattle.std.proofs.Common.{◌∙◌, to_z-of_z, w16, SFits, rules}
-use Rattle.state.proofs.Uses.{exact, raised, not-raised, lowered, not-lowered}
+use Rattle.state.proofs.Uses.{exact, raised, not_raised, lowered, not_lowered}
 use Rattle.state.proofs.use_entry.Statement.{statement}
 use Rattle.state.proofs.use_entry.Tie as tie
 
@@ -52,14 +52,14 @@ returns-4 : tie.Need-returns-4
 returns-4 c =
     let s = c.before.before.before.before.before in
     (simp (to_z-of_z s.ranges.alpha, to_z-of_z s.ranges.beta) at c.narrow2.ensures)
-    ∙ not-raised s.args.e s.args.alpha s.args.beta c.before.before.enum-told2.given.1
+    ∙ not_raised s.args.e s.args.alpha s.args.beta c.before.before.enum-told2.given.1
     (simp (to_z-of_z (score-fits s), to_z-of_z s.ranges.alpha) at c.before.if1.false)
 
 returns-5 : tie.Need-returns-5
 returns-5 c =
     let s = c.before.before.before.before.before in
     (simp (to_z-of_z s.ranges.alpha, to_z-of_z s.ranges.beta) at c.narrow4.ensures)
-    ∙ not-lowered s.args.e s.args.alpha s.args.beta c.before.before.enum-told3.given.1
+    ∙ not_lowered s.args.e s.args.alpha s.args.beta c.before.before.enum-told3.given.1
     (simp (to_z-of_z (score-fits s), to_z-of_z s.ranges.beta) at c.before.if2.false)
 
 pub use-entry-spec : {M : Type 1} → statement M

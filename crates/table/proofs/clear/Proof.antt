@@ -1,8 +1,8 @@
 -- `table::clear` meets its contract. The loop's invariant: the words before i are 0, and the others are as they were. Assumes nothing.
 use Rattle.std.proofs.Common.{◌≡◌, ℕ, ◌-◌, ◌<◌, ◌≤◌, List, ◌++◌, length, drop, replicate, refl, ap, ◌∙◌, arith, length-set}
 use Rattle.table.specs.Stats.{zeroed}
-use Rattle.table.specs.Table.{table_of, clearOf}
-use Rattle.table.proofs.Fill.{fill_more, fill-all}
+use Rattle.table.specs.Table.{table_of, clear_of}
+use Rattle.table.proofs.Fill.{fill_more, fill_all}
 use Rattle.table.proofs.clear.Statement.{statement}
 use Rattle.table.proofs.clear.Tie as tie
 
@@ -42,11 +42,11 @@ same_length : tie.Need-same-length invariant-loop decreases-loop
 same_length c = c.before.loop.invariant.1.0
 
 returns : tie.Need-returns invariant-loop decreases-loop
-unfolding clearOf
+unfolding clear_of
 returns c =
     let l = c.before in
     let n : l.loop.i ≡ length l.before.args.words.now = omega arith in
-    ap (λ (x : List ℕ). table_of x (zeroed 0)) (fill-all 0 l.loop.i l.before.args.words.now l.loop.words n l.loop.invariant.1.1)
+    ap (λ (x : List ℕ). table_of x (zeroed 0)) (fill_all 0 l.loop.i l.before.args.words.now l.loop.words n l.loop.invariant.1.1)
 
 pub clear_spec : {M : Type 1} → statement M
 clear_spec =

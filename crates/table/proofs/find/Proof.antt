@@ -1,7 +1,7 @@
 -- `table::find` meets its contract: one law for each answer. Assumes nothing.
 use Rattle.std.proofs.Common.{◌≡◌, length, rules}
 use Rattle.table.specs.Slot.{slot_of}
-use Rattle.table.proofs.Finding.{is-miss, is-hit, is-collision}
+use Rattle.table.proofs.Finding.{is_miss, is_hit, is_collision}
 use Rattle.table.proofs.find.Statement.{statement}
 use Rattle.table.proofs.find.Tie as tie
 
@@ -35,17 +35,17 @@ slotted c = c.before.before.before.slot.ensures.0
 returns : tie.Need-returns
 returns c =
     let e = c.before.before in
-    is-miss (start e).args.words.now (start e).args.hash _ (slotted e) _ e.entry_of.ensures c.if1.true
+    is_miss (start e).args.words.now (start e).args.hash _ (slotted e) _ e.entry_of.ensures c.if1.true
 
 returns-2 : tie.Need-returns-2
 returns-2 c =
     let e = c.before.before.before in
-    is-hit (start e).args.words.now (start e).args.hash _ (slotted e) _ e.entry_of.ensures c.before.if1.false c.if2.true
+    is_hit (start e).args.words.now (start e).args.hash _ (slotted e) _ e.entry_of.ensures c.before.if1.false c.if2.true
 
 returns-3 : tie.Need-returns-3
 returns-3 c =
     let e = c.before.before.before in
-    is-collision (start e).args.words.now (start e).args.hash _ (slotted e) _ e.entry_of.ensures c.before.if1.false c.if2.false
+    is_collision (start e).args.words.now (start e).args.hash _ (slotted e) _ e.entry_of.ensures c.before.if1.false c.if2.false
 
 pub find_spec : {M : Type 1} → statement M
 find_spec =

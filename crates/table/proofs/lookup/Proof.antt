@@ -1,7 +1,7 @@
 -- `table::lookup` meets its contract: what `find` found, and what `looked` made of it. Assumes nothing.
 use Rattle.std.proofs.Common.{ap, ◌∙◌, rules}
 use Rattle.table.specs.Stats.{looked}
-use Rattle.table.specs.Table.{lookupOf}
+use Rattle.table.specs.Table.{lookup_of}
 use Rattle.table.proofs.lookup.Statement.{statement}
 use Rattle.table.proofs.lookup.Tie as tie
 
@@ -12,7 +12,7 @@ looked-requires : tie.Need-looked-requires
 looked-requires c κs = search rules
 
 returns : tie.Need-returns
-unfolding lookupOf
+unfolding lookup_of
 returns c = simp (c.looked.ensures, c.before.find.ensures)
 
 pub lookup-spec : {M : Type 1} → statement M

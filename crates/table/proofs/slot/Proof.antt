@@ -1,7 +1,7 @@
 -- `table::slot` meets its contract: a remainder by n is below n. Assumes nothing.
 use Rattle.std.proofs.Common.{◌/◌, ◌%◌, ◌<◌, refl, mod-lt, arith, rules}
 use Rattle.table.specs.Slot.{slot_of}
-use Rattle.table.proofs.Keep.{slot-in}
+use Rattle.table.proofs.Keep.{slot_in}
 use Rattle.table.proofs.slot.Statement.{statement}
 use Rattle.table.proofs.slot.Tie as tie
 
@@ -16,7 +16,7 @@ mul-result c = omega (arith, below c)
 
 returns : tie.Need-returns
 unfolding slot_of
-returns c = (refl, slot-in c.args.words c.args.hash c.requires)
+returns c = (refl, slot_in c.args.words c.args.hash c.requires)
 
 pub slot-spec : {M : Type 1} → statement M
 slot-spec = tie.close (tie.spec rem-result mul-result returns)

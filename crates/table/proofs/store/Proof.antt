@@ -1,8 +1,8 @@
 -- `table::store` meets its contract: one law where it replaces, one where it does not. Assumes nothing.
 use Rattle.std.proofs.Common.{◌≡◌, arith, length-set, to_z-of_z, rules}
-use Rattle.transposition.specs.Word.{dataWord}
+use Rattle.transposition.specs.Word.{data_word}
 use Rattle.table.specs.Slot.{replaces}
-use Rattle.table.specs.Table.{newEntry}
+use Rattle.table.specs.Table.{new_entry}
 use Rattle.table.proofs.Keep.{stored, kept}
 use Rattle.table.proofs.store.Statement.{statement}
 use Rattle.table.proofs.store.Tie as tie
@@ -63,8 +63,8 @@ module _ (c : tie.After-data-word) where
   abbrev start' : tie.Start
   start' = start c.before.before
 
-  packed : c.data-word.result ≡ dataWord (newEntry start'.args.stats start'.args.depth start'.args.score start'.args.mv start'.args.bound)
-  packed = simp (to_z-of_z start'.fits.depth, to_z-of_z start'.fits.score) at c.data-word.ensures
+  packed : c.data_word_lem.result ≡ data_word (new_entry start'.args.stats start'.args.depth start'.args.score start'.args.mv start'.args.bound)
+  packed = simp (to_z-of_z start'.fits.depth, to_z-of_z start'.fits.score) at c.data_word_lem.ensures
 
 returns : tie.Need-returns
 returns c =
@@ -72,7 +72,7 @@ returns c =
     let e = d.before.before in
     let s = (start e).args in
     stored s.words.now s.stats s.hash s.depth s.score s.mv s.bound _ e.before.before.before.slot.ensures.0 _ e.before.entry_of.ensures
-    _ (ruled e) _ _ _ (packed d) c.before.hash-word.ensures c.inserted.ensures d.before.if1.true
+    _ (ruled e) _ _ _ (packed d) c.before.hash_word_lem.ensures c.inserted.ensures d.before.if1.true
 
 returns-2 : tie.Need-returns-2
 returns-2 c =

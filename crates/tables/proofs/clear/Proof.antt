@@ -2,8 +2,8 @@
 use mathlib.Core.Path.{sym, ◌∙◌}
 use borrow.Author.Rules.{rules}
 use borrow.Author.Tests.{not-true, not-false}
-use Rattle.table.specs.Table.{table_of, clearOf}
-use Rattle.tables.proofs.TableAnswers.{table-eight, table-made}
+use Rattle.table.specs.Table.{table_of, clear_of}
+use Rattle.tables.proofs.TableAnswers.{table_eight, table-made}
 use Rattle.tables.proofs.clear.Statement.{statement}
 use Rattle.tables.proofs.clear.Tie as tie
 
@@ -19,7 +19,7 @@ same_length c = search rules
 returns : tie.Need-returns
 returns c =
     let a = c.before.before.before.before.before.args in
-    table-eight a.words.now (sym c.before.before.table-right.ensures ∙ not-true _ c.before.if1.true) a.stats _ _ c.stats-refused.ensures
+    table_eight a.words.now (sym c.before.before.table-right.ensures ∙ not-true _ c.before.if1.true) a.stats _ _ c.stats-refused.ensures
 
 clear-requires : tie.Need-clear-requires
 clear-requires c κs = search rules
@@ -35,7 +35,7 @@ returns-2 c =
     let n = c.before.before.before in
     let k = n.before.before in
     let a = k.before.before.before.before.args in
-    table-made a.words.now (sym k.before.table-right.ensures ∙ not-false _ k.if1.false) a.stats (clearOf a.words.now)
+    table-made a.words.now (sym k.before.table-right.ensures ∙ not-false _ k.if1.false) a.stats (clear_of a.words.now)
     (table_of n.clear.new.0 n.clear.result) _ n.clear.ensures c.stats-given.ensures
 
 pub clear_spec : {M : Type 1} → statement M

@@ -4,13 +4,13 @@ use mathlib.Core.Bool.{true}
 use native.Mathlib.Omega.{arith}
 use borrow.Author.Rules.{rules}
 use borrow.Author.Tests.{not-true, not-false}
-use Rattle.refusals.specs.Rows.{tableRight}
+use Rattle.refusals.specs.Rows.{table_right}
 use Rattle.tables.specs.declared.OccupancyResult.{OccupancyResult}
-use Rattle.tables.proofs.TableAnswers.{occupancy-eight, occupancy-made}
+use Rattle.tables.proofs.TableAnswers.{occupancy_eight, occupancy_made}
 use Rattle.tables.proofs.occupancy.Statement.{statement}
 use Rattle.tables.proofs.occupancy.Tie as tie
 
-right : (c : tie.Else1) → tableRight c.before.before.before.args.words.now ≡ true
+right : (c : tie.Else1) → table_right c.before.before.before.args.words.now ≡ true
 right c = sym c.before.table-right.ensures ∙ not-false _ c.if1.false
 
 refused : (c : tie.After-occupancy-refused) → c.occupancy-refused.result.refusal ≡ 8
@@ -25,7 +25,7 @@ occupancy-refused-requires c κs = search rules
 returns : tie.Need-returns
 returns c =
     let s = c.before.before.before.before in (
-      c.occupancy-refused.ensures ∙ occupancy-eight s.args.words.now (sym c.before.before.table-right.ensures ∙ not-true _ c.before.if1.true),
+      c.occupancy-refused.ensures ∙ occupancy_eight s.args.words.now (sym c.before.before.table-right.ensures ∙ not-true _ c.before.if1.true),
       λ z. absurd (omega (arith, refused c, z)),
     )
 
@@ -35,7 +35,7 @@ occupied-requires c κs = right c
 returns-2 : tie.Need-returns-2
 returns-2 c =
     let s = c.before.before.before.before in
-    (occupancy-made s.args.words.now (right c.before) _ c.occupied.ensures.0, λ z. c.occupied.ensures.1)
+    (occupancy_made s.args.words.now (right c.before) _ c.occupied.ensures.0, λ z. c.occupied.ensures.1)
 
 pub occupancy-spec : {M : Type 1} → statement M
 occupancy-spec = tie.close (tie.spec table-right-requires occupancy-refused-requires returns occupied-requires returns-2)

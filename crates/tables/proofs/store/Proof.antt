@@ -5,8 +5,8 @@ use borrow.Author.Rules.{rules}
 use borrow.Author.Tests.{not-true, not-false}
 use mir.Facts.{to_z-of_z}
 use Rattle.table.specs.Table.{Table, table_of, store_of}
-use Rattle.refusals.specs.Rows.{tableRight}
-use Rattle.tables.proofs.TableAnswers.{words-least, table-eight, table-made}
+use Rattle.refusals.specs.Rows.{table_right}
+use Rattle.tables.proofs.TableAnswers.{words_least, table_eight, table-made}
 use Rattle.tables.proofs.store.Statement.{statement}
 use Rattle.tables.proofs.store.Tie as tie
 
@@ -14,7 +14,7 @@ use Rattle.tables.proofs.store.Tie as tie
 abbrev made : tie.Start → Table
 made s = store_of s.args.words.now s.args.stats s.args.hash s.args.depth s.args.score s.args.mv s.args.bound
 
-right : (c : tie.Else1) → tableRight c.before.before.before.before.args.words.now ≡ true
+right : (c : tie.Else1) → table_right c.before.before.before.before.args.words.now ≡ true
 right c = sym c.before.table-right.ensures ∙ not-false _ c.if1.false
 
 table-right-requires : tie.Need-table-right-requires
@@ -29,10 +29,10 @@ same_length c = search rules
 returns : tie.Need-returns
 returns c =
     let s = c.before.before.before.before.before in
-    table-eight s.args.words.now (sym c.before.before.table-right.ensures ∙ not-true _ c.before.if1.true) s.args.stats _ _ c.stats-refused.ensures
+    table_eight s.args.words.now (sym c.before.before.table-right.ensures ∙ not-true _ c.before.if1.true) s.args.stats _ _ c.stats-refused.ensures
 
 store-requires : tie.Need-store-requires
-store-requires c κs = words-least c.before.before.before.before.before.args.words.now (right c.before)
+store-requires c κs = words_least c.before.before.before.before.before.args.words.now (right c.before)
 
 stats-given-requires : tie.Need-stats-given-requires
 stats-given-requires c κs = search rules

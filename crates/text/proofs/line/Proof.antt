@@ -4,7 +4,7 @@ use native.Mathlib.Omega.{arith}
 use Prim.Native.Nat.{◌≤◌}
 use lib.ListN.{length}
 use Rattle.io.proofs.Counting.{prefix_len_of_le}
-use Rattle.text.proofs.Putting.{line_refused, line-answered}
+use Rattle.text.proofs.Putting.{line_refused, line_answered}
 use borrow.Author.Rules.{rules}
 use Rattle.text.proofs.line.Statement.{statement}
 use Rattle.text.proofs.line.Tie as tie
@@ -25,7 +25,7 @@ returns-2 : tie.Need-returns-2
 returns-2 c =
     let p = c.put-answer.ensures in
     let l : c.put-answer.result ≤ length c.put-answer.new.0 = omega (arith, p.1) in
-    (prefix_len_of_le _ _ l, p.0.bytes ∙ sym (line-answered c.before.before.before.before.args.r c.before.before.if1.false))
+    (prefix_len_of_le _ _ l, p.0.bytes ∙ sym (line_answered c.before.before.before.before.args.r c.before.before.if1.false))
 
 pub line-spec : {M : Type 1} → statement M
 line-spec = tie.close (tie.spec put-refused-requires returns put-answer-requires returns-2)

@@ -1,7 +1,7 @@
 -- `text::put` meets its contract: the word is copied to the start of the part from the place on. Assumes nothing.
 use borrow.Author.Rules.{rules}
 use native.Mathlib.Omega.{arith}
-use Rattle.text.proofs.Putting.{put-part}
+use Rattle.text.proofs.Putting.{put_part}
 use Rattle.text.proofs.put.Statement.{statement}
 use Rattle.text.proofs.put.Tie as tie
 
@@ -27,7 +27,7 @@ returns : tie.Need-returns
 returns c =
     let s = c.before.before.before.before.before.before in
     let k = c.before.before.copy in
-    put-part s.args.out.now s.args.word.now _ _ _ s.args.at k.result (omega (arith, s.requires)) k.ensures.0 k.ensures.1
+    put_part s.args.out.now s.args.word.now _ _ _ s.args.at k.result (omega (arith, s.requires)) k.ensures.0 k.ensures.1
 
 pub put_spec : {M : Type 1} → statement M
 put_spec = tie.close (tie.spec sub-copy part-copy-start part-copy-end copy-requires add-result same_length returns)

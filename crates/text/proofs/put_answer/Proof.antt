@@ -1,6 +1,6 @@
 -- `text::put_answer` meets its contract: what was found, how, the end of the line. Assumes nothing.
 use native.Mathlib.Omega.{arith}
-use Rattle.text.specs.Text.{ascii, answerLine}
+use Rattle.text.specs.Text.{ascii, answer_line}
 use Rattle.text.proofs.Putting.{put_both}
 use borrow.Author.Rules.{rules}
 use Rattle.text.proofs.put_answer.Statement.{statement}
@@ -22,9 +22,9 @@ same_length : tie.Need-same-length
 same_length c = search rules
 
 returns : tie.Need-returns
-unfolding answerLine ascii
+unfolding answer_line ascii
 returns c =
-    let found = c.before.before.before.before.before.before.before.before.before.before.before.put-found.ensures in
+    let found = c.before.before.before.before.before.before.before.before.before.before.before.put_found.ensures in
     let spent = c.before.before.before.before.before.before.before.put-spent.ensures in
     let end = c.before.before.put.ensures in
     (put_both (put_both found.0 spent.0) end, omega (arith, found.1, spent.1, end.place))

@@ -1,7 +1,7 @@
 -- `text::put_found` meets its contract: score, then move. Assumes nothing.
 use native.Mathlib.Omega.{arith}
 use Rattle.score.proofs.Bits.{back16}
-use Rattle.text.specs.Text.{ascii, foundText}
+use Rattle.text.specs.Text.{ascii, found_text}
 use Rattle.text.proofs.Putting.{put_both}
 use borrow.Author.Rules.{rules}
 use Rattle.text.proofs.put_found.Statement.{statement}
@@ -29,7 +29,7 @@ same_length : tie.Need-same-length
 same_length c = search rules
 
 returns : tie.Need-returns
-unfolding foundText ascii
+unfolding found_text ascii
 returns c =
     let word = c.before.before.before.before.before.before.before.before.before.before.before.before.before.put.ensures in
     let score = c.before.before.before.before.before.before.before.before.put-score.ensures in

@@ -4,7 +4,7 @@ use borrow.Author.Rules.{rules}
 use native.Mathlib.Omega.{arith}
 use lib.ListN.{take}
 use Rattle.text.specs.Text.{decimal}
-use Rattle.text.proofs.Digits.{digits_decimal, at-most-20, decimal-length}
+use Rattle.text.proofs.Digits.{digits_decimal, at_most_20, decimal_length}
 use Rattle.text.proofs.Putting.{put_same}
 use Rattle.text.proofs.put_number.Statement.{statement}
 use Rattle.text.proofs.put_number.Tie as tie
@@ -22,10 +22,10 @@ slice-aggregate-put c = search rules
 spelt : (p : tie.After-put-arg) → take p.before.decimal.result p.before.decimal.new.1.0 ≡ decimal p.before.before.before.before.args.n
 spelt p =
     let d = p.before in
-    d.decimal.ensures.1.1 ∙ digits_decimal d.decimal.result 20 d.before.before.before.args.n (at-most-20 d.decimal.result d.before.before.before.args.n (search rules) d.decimal.ensures.1.0) d.decimal.ensures.1.0
+    d.decimal.ensures.1.1 ∙ digits_decimal d.decimal.result 20 d.before.before.before.args.n (at_most_20 d.decimal.result d.before.before.before.args.n (search rules) d.decimal.ensures.1.0) d.decimal.ensures.1.0
 
 put-requires : tie.Need-put-requires
-put-requires c κs = rw (spelt c.before) (omega (arith, decimal-length 20 c.before.before.before.before.before.args.n))
+put-requires c κs = rw (spelt c.before) (omega (arith, decimal_length 20 c.before.before.before.before.before.args.n))
 
 same_length : tie.Need-same-length
 same_length c = search rules
@@ -33,7 +33,7 @@ same_length c = search rules
 returns : tie.Need-returns
 returns c =
     let p = put_same (spelt c.before.before.before.before) c.before.before.put.ensures in
-    (p, omega (arith, p.place, decimal-length 20 c.before.before.before.before.before.before.before.before.args.n))
+    (p, omega (arith, p.place, decimal_length 20 c.before.before.before.before.before.before.before.before.args.n))
 
 pub put-number-spec : {M : Type 1} → statement M
 put-number-spec = tie.close (tie.spec decimal-requires array-share-prefix-digits slice-aggregate-put put-requires same_length returns)

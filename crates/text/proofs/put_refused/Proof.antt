@@ -1,6 +1,6 @@
 -- `text::put_refused` meets its contract: the word, the number, the end of the line. Assumes nothing.
 use native.Mathlib.Omega.{arith}
-use Rattle.text.specs.Text.{ascii, refusedLine}
+use Rattle.text.specs.Text.{ascii, refused_line}
 use Rattle.text.proofs.Putting.{put_both}
 use borrow.Author.Rules.{rules}
 use Rattle.text.proofs.put_refused.Statement.{statement}
@@ -22,7 +22,7 @@ same_length : tie.Need-same-length
 same_length c = search rules
 
 returns : tie.Need-returns
-unfolding refusedLine ascii
+unfolding refused_line ascii
 returns c =
     let word = c.before.before.before.before.before.before.before.put-field.ensures in
     let end = c.before.before.put.ensures in

@@ -7,7 +7,7 @@ use mir.Syntax.{w16}
 use mir.Val.{of_z}
 use mir.Facts.{to_z-of_z}
 use Rattle.text.specs.Text.{ascii, decimal}
-use Rattle.text.proofs.Digits.{signed-from-zero, signed-below-zero}
+use Rattle.text.proofs.Digits.{signed_from_zero, signed_below_zero}
 use Rattle.text.proofs.Putting.{put_same}
 use borrow.Author.Rules.{rules}
 use Rattle.text.proofs.put_score.Statement.{statement}
@@ -33,7 +33,7 @@ returns : tie.Need-returns
 returns c =
     let d = c.before.before.before.before.before in
     let s = d.before.before in
-    (put_same (ap decimal (told d) ∙ sym (signed-from-zero s.args.score s.ranges.score.sfits (rw (told d) at c.before.before.before.before.if1.true))) c.before.before.put-number.ensures.0, omega (arith, c.before.before.put-number.ensures.1))
+    (put_same (ap decimal (told d) ∙ sym (signed_from_zero s.args.score s.ranges.score.sfits (rw (told d) at c.before.before.before.before.if1.true))) c.before.before.put-number.ensures.0, omega (arith, c.before.before.put-number.ensures.1))
 
 slice-aggregate-put-field : tie.Need-slice-aggregate-put-field
 slice-aggregate-put-field c = search rules
@@ -52,7 +52,7 @@ unfolding ascii
 returns-2 c =
     let d = c.before.before.before.before.before.before in
     let s = d.before.before in
-    (put_same (ap (λ (k : ℕ). ascii "-" ++ decimal (65536 - k)) (told d) ∙ sym (signed-below-zero s.args.score s.ranges.score.sfits (rw (told d) at c.before.before.before.before.before.if1.false))) c.before.before.put-field.ensures.0, omega (arith, c.before.before.put-field.ensures.1))
+    (put_same (ap (λ (k : ℕ). ascii "-" ++ decimal (65536 - k)) (told d) ∙ sym (signed_below_zero s.args.score s.ranges.score.sfits (rw (told d) at c.before.before.before.before.before.if1.false))) c.before.before.put-field.ensures.0, omega (arith, c.before.before.put-field.ensures.1))
 
 pub put-score-spec : {M : Type 1} → statement M
 put-score-spec =

@@ -1,6 +1,6 @@
 -- `text::put_spent` meets its contract: depth, nodes, stop mark. Assumes nothing.
 use native.Mathlib.Omega.{arith}
-use Rattle.text.specs.Text.{ascii, spentText}
+use Rattle.text.specs.Text.{ascii, spent_text}
 use Rattle.text.proofs.Putting.{put_both}
 use borrow.Author.Rules.{rules}
 use Rattle.text.proofs.put_spent.Statement.{statement}
@@ -34,7 +34,7 @@ same_length : tie.Need-same-length
 same_length c = search rules
 
 returns : tie.Need-returns
-unfolding spentText ascii
+unfolding spent_text ascii
 returns c =
     let depth = c.before.before.before.before.before.before.before.before.before.before.before.before.before.put-field.ensures in
     let nodes = c.before.before.before.before.before.before.before.before.put-field2.ensures in

@@ -3,7 +3,7 @@ use borrow.Author.Rules.{rules}
 use mir.Syntax.{w8, w16}
 use mir.Val.{SFits}
 use mir.Facts.{to_z-of_z}
-use Rattle.transposition.specs.Word.{dataWord}
+use Rattle.transposition.specs.Word.{data_word}
 use Rattle.transposition.proofs.data_word.Statement.{statement}
 use Rattle.transposition.proofs.data_word.Tie as tie
 
@@ -65,7 +65,7 @@ score-fits : (c : tie.Start) → SFits w16 c.args.e.score
 score-fits c = search rules
 
 returns : tie.Need-returns
-unfolding dataWord
+unfolding data_word
 returns c =
     let s = c.before.before.before.before.before.before.before in
     simp (

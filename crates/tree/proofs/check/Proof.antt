@@ -2,75 +2,75 @@
 use Rattle.std.proofs.Common.{◌≡◌, true, ℤ, sym, refl, ◌∙◌, rules}
 use borrow.Author.Tests.{not-true, not-false}
 use Rattle.score.proofs.Bits.{said}
-use Rattle.tree.specs.Blocks.{lengthRight, Blocked}
+use Rattle.tree.specs.Blocks.{length_right, Blocked}
 use Rattle.tree.specs.Layout.{Laid}
-use Rattle.tree.specs.Fields.{fieldsRight}
-use Rattle.tree.specs.Refusal.{treeRefusal}
+use Rattle.tree.specs.Fields.{fields_right}
+use Rattle.tree.specs.Refusal.{tree_refusal}
 use Rattle.tree.proofs.check.Statement.{statement}
 use Rattle.tree.proofs.check.Tie as tie
 
 -- what the rows passed so far say
 
-long : (c : tie.Else1) → lengthRight c.before.before.before.args.tree.now ≡ true
-long c = sym c.before.length-right.ensures ∙ not-false _ c.if1.false
+long : (c : tie.Else1) → length_right c.before.before.before.args.tree.now ≡ true
+long c = sym c.before.length_right_lem.ensures ∙ not-false _ c.if1.false
 
 blocked : (c : tie.Else2) → Blocked c.before.before.before.before.before.args.tree.now
-blocked c = record { length-right = long c.before.before; blocks-right = sym c.before.blocks-right.ensures ∙ not-false _ c.if2.false }
+blocked c = record { length_right_lem = long c.before.before; blocks_right_lem = sym c.before.blocks_right_lem.ensures ∙ not-false _ c.if2.false }
 
 laid : (c : tie.Else3) → Laid c.before.before.before.before.before.before.before.args.tree.now
-laid c = record { blocked = blocked c.before.before; layout-right = sym c.before.layout-right.ensures ∙ not-false _ c.if3.false }
+laid c = record { blocked = blocked c.before.before; layout_right_lem = sym c.before.layout_right_lem.ensures ∙ not-false _ c.if3.false }
 
-fields_told : (c : tie.After-fields-right) → c.fields-right.result ≡ fieldsRight c.before.before.before.before.before.before.before.before.args.inf c.before.before.before.before.before.before.before.before.args.max-ply c.before.before.before.before.before.before.before.before.args.tree.now
+fields_told : (c : tie.After-fields-right) → c.fields_right_lem.result ≡ fields_right c.before.before.before.before.before.before.before.before.args.inf c.before.before.before.before.before.before.before.before.args.max-ply c.before.before.before.before.before.before.before.before.args.tree.now
 fields_told c =
     let s = c.before.before.before.before.before.before.before.before in
-    said (λ (z : ℤ). fieldsRight z s.args.max-ply s.args.tree.now) s.ranges.inf.sfits c.fields-right.ensures
+    said (λ (z : ℤ). fields_right z s.args.max-ply s.args.tree.now) s.ranges.inf.sfits c.fields_right_lem.ensures
 
 length-right-requires : tie.Need-length-right-requires
 length-right-requires c κs = search rules
 
 returns : tie.Need-returns
-unfolding treeRefusal
-returns c = rw (sym c.before.length-right.ensures ∙ not-true _ c.if1.true) refl
+unfolding tree_refusal
+returns c = rw (sym c.before.length_right_lem.ensures ∙ not-true _ c.if1.true) refl
 
 blocks-right-requires : tie.Need-blocks-right-requires
 blocks-right-requires c κs = search rules
 
 returns-2 : tie.Need-returns-2
-unfolding treeRefusal
-returns-2 c = rw (long c.before.before, sym c.before.blocks-right.ensures ∙ not-true _ c.if2.true) refl
+unfolding tree_refusal
+returns-2 c = rw (long c.before.before, sym c.before.blocks_right_lem.ensures ∙ not-true _ c.if2.true) refl
 
 layout-right-requires : tie.Need-layout-right-requires
 layout-right-requires c κs = blocked c
 
 returns-3 : tie.Need-returns-3
-unfolding treeRefusal
+unfolding tree_refusal
 returns-3 c =
     let k = blocked c.before.before in
-    rw (k.length-right, k.blocks-right, sym c.before.layout-right.ensures ∙ not-true _ c.if3.true) refl
+    rw (k.length_right_lem, k.blocks_right_lem, sym c.before.layout_right_lem.ensures ∙ not-true _ c.if3.true) refl
 
 fields-right-requires : tie.Need-fields-right-requires
 fields-right-requires c κs = laid c
 
 returns-4 : tie.Need-returns-4
-unfolding treeRefusal
+unfolding tree_refusal
 returns-4 c =
     let l = laid c.before.before in
-    rw (l.blocked.length-right, l.blocked.blocks-right, l.layout-right, sym (fields_told c.before) ∙ not-true _ c.if4.true) refl
+    rw (l.blocked.length_right_lem, l.blocked.blocks_right_lem, l.layout_right_lem, sym (fields_told c.before) ∙ not-true _ c.if4.true) refl
 
 levels-right-requires : tie.Need-levels-right-requires
 levels-right-requires c κs = laid c.before.before
 
 returns-5 : tie.Need-returns-5
-unfolding treeRefusal
+unfolding tree_refusal
 returns-5 c =
     let l = laid c.before.before.before.before in
-    rw (l.blocked.length-right, l.blocked.blocks-right, l.layout-right, sym (fields_told c.before.before.before) ∙ not-false _ c.before.before.if4.false, sym c.before.levels-right.ensures ∙ not-true _ c.if5.true) refl
+    rw (l.blocked.length_right_lem, l.blocked.blocks_right_lem, l.layout_right_lem, sym (fields_told c.before.before.before) ∙ not-false _ c.before.before.if4.false, sym c.before.levels_right_lem.ensures ∙ not-true _ c.if5.true) refl
 
 returns-6 : tie.Need-returns-6
-unfolding treeRefusal
+unfolding tree_refusal
 returns-6 c =
     let l = laid c.before.before.before.before in
-    rw (l.blocked.length-right, l.blocked.blocks-right, l.layout-right, sym (fields_told c.before.before.before) ∙ not-false _ c.before.before.if4.false, sym c.before.levels-right.ensures ∙ not-false _ c.if5.false) refl
+    rw (l.blocked.length_right_lem, l.blocked.blocks_right_lem, l.layout_right_lem, sym (fields_told c.before.before.before) ∙ not-false _ c.before.before.if4.false, sym c.before.levels_right_lem.ensures ∙ not-false _ c.if5.false) refl
 
 pub check-spec : {M : Type 1} → statement M
 check-spec =

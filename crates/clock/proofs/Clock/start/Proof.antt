@@ -3,7 +3,7 @@ use borrow.Author.Rules.{rules}
 use mathlib.Core.Path.{◌∙◌, sym}
 use native.Mathlib.Omega.{arith}
 use Rattle.clock.specs.Ticks.{start_of}
-use Rattle.clock.proofs.Laws.{ply-from, ply-to}
+use Rattle.clock.proofs.Laws.{ply_from, ply_to}
 use Rattle.clock.proofs.Answering.{refuses, goes}
 use Rattle.clock.proofs.Clock.start.Statement.{statement}
 use Rattle.clock.proofs.Clock.start.Tie as tie
@@ -16,10 +16,10 @@ unfolding start_of
 returns c = refuses _ _ c.before.ply-out.ensures c.if1.true
 
 cast-moves-remaining : tie.Need-overflow-cast-moves-remaining
-cast-moves-remaining c = omega (arith, ply-to _ (sym c.before.ply-out.ensures ∙ c.if1.false))
+cast-moves-remaining c = omega (arith, ply_to _ (sym c.before.ply-out.ensures ∙ c.if1.false))
 
 moves-remaining-requires : tie.Need-moves-remaining-requires
-moves-remaining-requires c κs = ply-from _ (sym c.before.ply-out.ensures ∙ c.if1.false)
+moves-remaining-requires c κs = ply_from _ (sym c.before.ply-out.ensures ∙ c.if1.false)
 
 returns-2 : tie.Need-returns-2
 unfolding start_of

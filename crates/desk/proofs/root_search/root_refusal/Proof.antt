@@ -3,8 +3,8 @@ use mathlib.Core.Path.{◌≡◌, sym, ◌∙◌}
 use borrow.Author.Rules.{rules}
 use borrow.Author.Tests.{not-true, not-false}
 use mir.Facts.{to_z-of_z}
-use Rattle.refusals.specs.Rows.{rangeRight}
-use Rattle.desk.proofs.Searching.{root-rows, root-range, root_none}
+use Rattle.refusals.specs.Rows.{range_right}
+use Rattle.desk.proofs.Searching.{root_rows, root_range, root_none}
 use Rattle.desk.proofs.root_search.root_refusal.Statement.{statement}
 use Rattle.desk.proofs.root_search.root_refusal.Tie as tie
 
@@ -14,18 +14,18 @@ search-rows-requires c κs = search rules
 returns : tie.Need-returns
 returns c =
     let s = c.before.before.before.before in
-    root-rows s.args.tree.now s.args.words.now s.args.history.now s.args.set s.args.start s.args.end _ c.before.search-rows.ensures c.if1.true
+    root_rows s.args.tree.now s.args.words.now s.args.history.now s.args.set s.args.start s.args.end _ c.before.search-rows.ensures c.if1.true
 
 range-right-requires : tie.Need-range-right-requires
 range-right-requires c κs = search rules
 
-told : (c : tie.After-range-right) → c.range-right.result ≡ rangeRight c.before.before.before.before.before.args.start c.before.before.before.before.before.args.end
+told : (c : tie.After-range-right) → c.range-right.result ≡ range_right c.before.before.before.before.before.args.start c.before.before.before.before.before.args.end
 told c = let s = c.before.before.before.before.before in simp (to_z-of_z s.ranges.start, to_z-of_z s.ranges.end) at c.range-right.ensures
 
 returns-2 : tie.Need-returns-2
 returns-2 c =
     let s = c.before.before.before.before.before.before in
-    root-range s.args.tree.now s.args.words.now s.args.history.now s.args.set s.args.start s.args.end _ c.before.before.before.search-rows.ensures c.before.before.if1.false
+    root_range s.args.tree.now s.args.words.now s.args.history.now s.args.set s.args.start s.args.end _ c.before.before.before.search-rows.ensures c.before.before.if1.false
     (sym (told c.before) ∙ not-true _ c.if2.true)
 
 returns-3 : tie.Need-returns-3

@@ -6,15 +6,15 @@ use borrow.Author.Rules.{rules}
 use lib.ListN.{length}
 use mir.Syntax.{w8}
 use mir.Facts.{to_z_pos}
-use Rattle.moves.specs.Order.{childOf}
-use Rattle.leave.specs.Cutoff.{malusAt, malusTo, creditOf}
+use Rattle.moves.specs.Order.{child_of}
+use Rattle.leave.specs.Cutoff.{malus_at, malus_to, credit_of}
 use Rattle.leave.proofs.Credits.{malus-more}
 use Rattle.leave.proofs.cutoff.credit.Statement.{statement}
 use Rattle.leave.proofs.cutoff.credit.Tie as tie
 
 abbrev invariant-loop : tie.invariant-loop
 invariant-loop tree history₀ hh here place mv n k i₀ history i =
-    (i ≤ n) × ((length history ≡ 8192) × (history ≡ malusTo tree hh here place i history₀))
+    (i ≤ n) × ((length history ≡ 8192) × (history ≡ malus_to tree hh here place i history₀))
 
 abbrev decreases-loop : tie.decreases-loop
 decreases-loop tree history₀ hh here place mv n k i₀ history i = n - i
@@ -26,7 +26,7 @@ bonus-requires : tie.Need-bonus-requires invariant-loop decreases-loop
 bonus-requires c κs = let p = c.before.before.before.requires.1.1.1 in (p.0, (p.1.0, p.1.1.1))
 
 loop-holds : tie.Need-loop-init invariant-loop decreases-loop
-unfolding malusTo
+unfolding malus_to
 loop-holds c = (omega arith, (search rules, refl))
 
 child-requires : tie.Need-child-requires invariant-loop decreases-loop
@@ -54,8 +54,8 @@ loop-again c =
       (
         search rules,
         c.before.malus-at.ensures
-            ∙ ap (λ (k : ℕ). malusAt t s.args.hh s.args.here k i l.loop.history) c.before.before.before.child.ensures
-            ∙ ap (malusAt t s.args.hh s.args.here (childOf t s.args.here.node s.args.place i) i) l.loop.invariant.1.1
+            ∙ ap (λ (k : ℕ). malus_at t s.args.hh s.args.here k i l.loop.history) c.before.before.before.child.ensures
+            ∙ ap (malus_at t s.args.hh s.args.here (child_of t s.args.here.node s.args.place i) i) l.loop.invariant.1.1
             ∙ sym (malus-more t s.args.hh s.args.here s.args.place i c.before.before.before.before.before.before.before.bonus.new.0),
       ),
     )
@@ -64,14 +64,14 @@ same_length : tie.Need-same-length invariant-loop decreases-loop
 same_length c = search rules
 
 returns : tie.Need-returns invariant-loop decreases-loop
-unfolding creditOf
+unfolding credit_of
 returns c =
     let s = c.before.before.before.before.before.before.before in
     let l = c.before in
     let t = s.args.tree.now in
     l.loop.invariant.1.1
-    ∙ ap (λ (j : ℕ). malusTo t s.args.hh s.args.here s.args.place j c.before.before.before.bonus.new.0) (omega arith)
-    ∙ ap (malusTo t s.args.hh s.args.here s.args.place s.args.n)
+    ∙ ap (λ (j : ℕ). malus_to t s.args.hh s.args.here s.args.place j c.before.before.before.bonus.new.0) (omega arith)
+    ∙ ap (malus_to t s.args.hh s.args.here s.args.place s.args.n)
     (simp (to_z_pos w8 {n = s.args.here.depth} (omega (arith, s.requires.1.1.1.1.1.0))) at c.before.before.before.bonus.ensures)
 
 pub credit-spec : {M : Type 1} → statement M

@@ -7,12 +7,12 @@ use mir.Syntax.{w8, w16}
 use mir.Val.{SFits}
 use mir.Facts.{to_z-of_z, to_z_pos}
 use Rattle.transposition.specs.declared.Bound.TheVariants.{Lower}
-use Rattle.record.specs.Node.{hashOf}
-use Rattle.tree.proofs.Blocked.{record-in}
+use Rattle.record.specs.Node.{hash_of}
+use Rattle.tree.proofs.Blocked.{record_in}
 use Rattle.state.specs.declared.State.{State}
-use Rattle.state.specs.State.{Over, over, keepOf}
-use Rattle.leave.specs.Cutoff.{creditIf}
-use Rattle.leave.proofs.Positive.{positive-abs}
+use Rattle.state.specs.State.{Over, over, keep_of}
+use Rattle.leave.specs.Cutoff.{credit_if}
+use Rattle.leave.proofs.Positive.{positive_abs}
 use Rattle.leave.proofs.Credits.{cut_left}
 use Rattle.leave.proofs.cutoff.cutoff.Statement.{statement}
 use Rattle.leave.proofs.cutoff.cutoff.Tie as tie
@@ -26,7 +26,7 @@ best-fits c = search rules
 -- what the store leaves
 abbrev stored : tie.Start → Over State
 stored s =
-    keepOf s.args.set.table s.args.words.now s.args.loc.state (hashOf s.args.tree.now s.args.here.node) (pos s.args.here.depth)
+    keep_of s.args.set.table s.args.words.now s.args.loc.state (hash_of s.args.tree.now s.args.here.node) (pos s.args.here.depth)
     s.args.loc.best s.args.loc.mv Lower
 
 kept : (c : tie.After-keep) → over c.keep.result c.keep.new.1.0 ≡ stored c.before.before.before.before.before.before.before.before
@@ -35,7 +35,7 @@ kept c =
     simp (c.before.before.before.before.hash.ensures, to_z_pos w8 {n = s.args.here.depth} (omega (arith, s.requires.1.1.1.1.1.1.1.0)), to_z-of_z (best-fits s)) at c.keep.ensures
 
 hash-requires : tie.Need-hash-requires
-hash-requires c κs = let s = c.before.before.before in record-in s.args.tree.now s.requires.0 s.args.here.node s.requires.1.0
+hash-requires c κs = let s = c.before.before.before in record_in s.args.tree.now s.requires.0 s.args.here.node s.requires.1.0
 
 cast-keep : tie.Need-overflow-cast-keep
 cast-keep c = search rules
@@ -44,7 +44,7 @@ keep-requires : tie.Need-keep-requires
 keep-requires c κs = search rules
 
 is-quiet-requires : tie.Need-is-quiet-requires
-is-quiet-requires c κs = let s = c.before.before.before.before.before.before.before.before.before.before.before in record-in s.args.tree.now s.requires.0 s.args.c s.requires.1.1.0
+is-quiet-requires c κs = let s = c.before.before.before.before.before.before.before.before.before.before.before in record_in s.args.tree.now s.requires.0 s.args.c s.requires.1.1.0
 
 history-max-requires : tie.Need-history-max-requires
 history-max-requires c κs = c.before.before.before.before.before.before.before.before.before.before.before.before.before.requires.1.1.1.1.1.1.1.1
@@ -58,7 +58,7 @@ credit-requires c κs =
         s.requires.1.0,
         (
           s.requires.1.1.1.0,
-          (p.0, (p.1.0, (p.1.1.0, rw c.before.history-max.ensures (positive-abs s.args.set.hh_max p.1.1.1)))),
+          (p.0, (p.1.0, (p.1.1.0, rw c.before.history-max.ensures (positive_abs s.args.set.hh_max p.1.1.1)))),
         ),
       ),
     )
@@ -70,7 +70,7 @@ same-length-2 : tie.Need-same-length-2
 same-length-2 c = search rules
 
 returns : tie.Need-returns
-unfolding creditIf
+unfolding credit_if
 returns c =
     let k = c.before.before.before.before.before.before.before.before.before in
     let s = k.before.before.before.before.before.before.before.before in
@@ -84,7 +84,7 @@ same-length-3 : tie.Need-same-length-3
 same-length-3 c = search rules
 
 returns-2 : tie.Need-returns-2
-unfolding creditIf
+unfolding credit_if
 returns-2 c =
     let k = c.before.before.before.before.before in
     let s = k.before.before.before.before.before.before.before.before in

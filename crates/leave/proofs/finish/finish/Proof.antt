@@ -6,9 +6,9 @@ use mir.Syntax.{w16}
 use mir.Val.{SFits}
 use mir.Facts.{to_z-of_z}
 use Rattle.record.specs.Node.{count_of}
-use Rattle.tree.proofs.Blocked.{record-in}
+use Rattle.tree.proofs.Blocked.{record_in}
 use Rattle.score.proofs.Bits.{through}
-use Rattle.leave.specs.Finish.{endIf, finishIf}
+use Rattle.leave.specs.Finish.{end_if, finish_if}
 use Rattle.leave.proofs.finish.finish.Statement.{statement}
 use Rattle.leave.proofs.finish.finish.Tie as tie
 
@@ -22,11 +22,11 @@ answer-requires : tie.Need-answer-requires
 answer-requires c κs = search rules
 
 returns : tie.Need-returns
-unfolding finishIf
+unfolding finish_if
 returns c = simp (c.answer.ensures, to_z-of_z (best-fits c.before.before.before.before.before.before.before), c.before.before.if1.true)
 
 child-count-requires : tie.Need-child-count-requires
-child-count-requires c κs = let s = c.before.before.before.before.before in record-in s.args.tree.now s.requires.0 s.args.here.node s.requires.1.0
+child-count-requires c κs = let s = c.before.before.before.before.before in record_in s.args.tree.now s.requires.0 s.args.here.node s.requires.1.0
 
 game-end-requires : tie.Need-game-end-requires
 game-end-requires c κs = search rules
@@ -35,7 +35,7 @@ answer-requires-2 : tie.Need-answer-requires-2
 answer-requires-2 c κs = search rules
 
 returns-2 : tie.Need-returns-2
-unfolding endIf finishIf
+unfolding end_if finish_if
 returns-2 c =
     simp (
       c.answer2.ensures,
@@ -51,7 +51,7 @@ same_length : tie.Need-same-length
 same_length c = search rules
 
 returns-3 : tie.Need-returns-3
-unfolding endIf finishIf
+unfolding end_if finish_if
 returns-3 c =
     c.before.before.store-best.ensures ∙ simp (c.before.before.before.before.before.before.if1.false, ne_eqb (count_of c.before.before.before.before.before.before.before.before.before.before.before.args.tree.now c.before.before.before.before.before.before.before.before.before.before.before.args.here.node) 0 (λ q. c.before.before.before.before.if2.false (c.before.before.before.before.before.child-count.ensures ∙ q)))
 

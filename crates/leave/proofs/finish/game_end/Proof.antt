@@ -7,8 +7,8 @@ use mir.Val.{SFits, to_z, of_z}
 use mir.Facts.{to_z-of_z, to_z_pos}
 use Rattle.score.specs.Wrap.{neg16}
 use Rattle.score.proofs.Bits.{through, said}
-use Rattle.tree.proofs.Blocked.{record-in}
-use Rattle.leave.specs.Finish.{gameEnd}
+use Rattle.tree.proofs.Blocked.{record_in}
+use Rattle.leave.specs.Finish.{game_end}
 use Rattle.leave.proofs.finish.game_end.Statement.{statement}
 use Rattle.leave.proofs.finish.game_end.Tie as tie
 
@@ -25,7 +25,7 @@ least : (c : tie.After-neg16) → to_z w16 (of_z w16 c.neg16.result) ≡ neg16 c
 least c = through (least_fits c).sfits (said neg16 (inf-fits c.before.before.before.before.before).sfits c.neg16.ensures)
 
 in-check-requires : tie.Need-in-check-requires
-in-check-requires c κs = let s = c.before in record-in s.args.tree.now s.requires.0 s.args.here.node s.requires.1.0
+in-check-requires c κs = let s = c.before in record_in s.args.tree.now s.requires.0 s.args.here.node s.requires.1.0
 
 neg16-requires : tie.Need-neg16-requires
 neg16-requires c κs = search rules
@@ -37,7 +37,7 @@ add16-requires : tie.Need-add16-requires
 add16-requires c κs = search rules
 
 returns : tie.Need-returns
-unfolding gameEnd
+unfolding game_end
 returns c =
     let s = c.before.before.before.before.before.before.before in
     to_z-of_z (end_fits c)
@@ -45,7 +45,7 @@ returns c =
     ∙ rw (sym c.before.before.before.before.before.in-check.ensures ∙ c.before.before.before.before.if1.true)
 
 returns-2 : tie.Need-returns-2
-unfolding gameEnd
+unfolding game_end
 returns-2 c = rw (sym c.before.in-check.ensures ∙ c.if1.false)
 
 pub game-end-spec : {M : Type 1} → statement M

@@ -4,20 +4,20 @@ use mathlib.Core.Logic.{⊎_elim}
 use Prim.Native.Nat.{ℕ, ◌-◌, ◌/◌, ◌≤◌}
 use native.Mathlib.Omega.{arith}
 use lib.ListN.{length}
-use Rattle.percentages.specs.Occupancy.{countsTo}
+use Rattle.percentages.specs.Occupancy.{counts_to}
 use Rattle.percentages.specs.declared.occupancy.Counts.{Counts}
-use Rattle.percentages.proofs.Count.{Below, counts-below, taken, skipped}
+use Rattle.percentages.proofs.Count.{Below, counts_below, taken, skipped}
 use Rattle.percentages.proofs.occupancy.counted.Statement.{statement}
 use Rattle.percentages.proofs.occupancy.counted.Tie as tie
 
 abbrev invariant-loop : tie.invariant-loop
-invariant-loop words c₀ n k₀ c k = (k ≤ n) × (c ≡ countsTo words k)
+invariant-loop words c₀ n k₀ c k = (k ≤ n) × (c ≡ counts_to words k)
 
 abbrev decreases-loop : tie.decreases-loop
 decreases-loop words c₀ n k₀ c k = n - k
 
 loop-holds : tie.Need-loop-init invariant-loop decreases-loop
-unfolding countsTo
+unfolding counts_to
 loop-holds c = (omega arith, refl)
 
 mul-entry-of : tie.Need-overflow-mul-entry-of invariant-loop decreases-loop
@@ -38,7 +38,7 @@ entry-of-requires c κs = tt
 add-requires : tie.Need-add-requires invariant-loop decreases-loop
 add-requires c κs =
     let l = c.before.before.before.before.before in
-    let b = subst (λ (x : Counts). Below x l.loop.k) (sym l.loop.invariant.1) (counts-below l.before.before.args.words.now l.loop.k) in
+    let b = subst (λ (x : Counts). Below x l.loop.k) (sym l.loop.invariant.1) (counts_below l.before.before.args.words.now l.loop.k) in
     omega arith
 
 add-k : tie.Need-overflow-add-k invariant-loop decreases-loop
@@ -64,7 +64,7 @@ returns c =
     let l = c.before in
     let w = l.before.before.args.words.now in
     let e : l.loop.k ≡ length w / 2 = omega arith in
-    l.loop.invariant.1 ∙ ap (countsTo w) e
+    l.loop.invariant.1 ∙ ap (counts_to w) e
 
 pub counted_spec : {M : Type 1} → statement M
 counted_spec =

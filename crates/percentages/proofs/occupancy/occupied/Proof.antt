@@ -2,7 +2,7 @@
 use mathlib.Core.Path.{◌≡◌}
 use borrow.Author.Rules.{rules}
 use native.Mathlib.Omega.{arith}
-use Rattle.percentages.specs.Occupancy.{occupancyOf}
+use Rattle.percentages.specs.Occupancy.{occupancy_of}
 use Rattle.percentages.proofs.Shares.{Room, room, exactly}
 use Rattle.percentages.proofs.occupancy.occupied.Statement.{statement}
 use Rattle.percentages.proofs.occupancy.occupied.Tie as tie
@@ -32,11 +32,11 @@ quotient-requires-3 : tie.Need-quotient-requires-3
 quotient-requires-3 c κs = omega (arith, small c.before.before.before.before.before)
 
 returns : tie.Need-returns
-unfolding occupancyOf
+unfolding occupancy_of
 returns c =
     let n = c.before.before.before.before.before.before in
     let s = n.before.before in
-    let e : ◌≡◌ (record { exact = c.before.before.before.before.quotient.result; lower = c.before.before.quotient2.result; upper = c.quotient3.result }) (occupancyOf s.args.words.now) =
+    let e : ◌≡◌ (record { exact = c.before.before.before.before.quotient.result; lower = c.before.before.quotient2.result; upper = c.quotient3.result }) (occupancy_of s.args.words.now) =
     simp (c.before.before.before.before.quotient.ensures, c.before.before.quotient2.ensures, c.quotient3.ensures, n.counted.ensures) in
     (e, exactly s.args.words.now s.requires _ e)
 

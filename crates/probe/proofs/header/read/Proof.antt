@@ -4,7 +4,7 @@ use mathlib.Core.Path.{◌∙◌}
 use mir.Syntax.{w8}
 use mir.Val.{SFits}
 use mir.Facts.{to_z-of_z}
-use Rattle.probe.specs.Header.{headerOf}
+use Rattle.probe.specs.Header.{header_of}
 use Rattle.probe.proofs.header.read.Statement.{statement}
 use Rattle.probe.proofs.header.read.Tie as tie
 
@@ -60,7 +60,7 @@ sent-of-requires : tie.Need-sent-of-requires
 sent-of-requires c κs = search rules
 
 returns : tie.Need-returns
-unfolding headerOf
+unfolding header_of
 returns c = let f : SFits w8 c.before.before.before.before.before.before.before.before.before.before.before.of-bits8.result = search rules in
     let g : SFits w8 c.before.before.before.before.before.before.before.before.before.of-bits82.result = search rules in
     let settings = c.before.before.before.before.before.before.before.before.before.before.before.before.before.before.before.settings-of.ensures in

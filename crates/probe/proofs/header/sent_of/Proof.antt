@@ -1,6 +1,6 @@
 -- `probe::header::sent_of` meets its contract, field by field. Assumes nothing.
 use borrow.Author.Rules.{rules}
-use Rattle.probe.specs.Header.{sentOf}
+use Rattle.probe.specs.Header.{sent_of}
 use Rattle.probe.proofs.header.sent_of.Statement.{statement}
 use Rattle.probe.proofs.header.sent_of.Tie as tie
 
@@ -17,7 +17,7 @@ bit-requires-2 : tie.Need-bit-requires-2
 bit-requires-2 c κs = search rules
 
 returns : tie.Need-returns
-unfolding sentOf
+unfolding sent_of
 returns c = simp (c.before.before.bit.ensures, c.bit2.ensures)
 
 pub sent-of-spec : {M : Type 1} → statement M

@@ -4,7 +4,7 @@ use mathlib.Core.Path.{◌∙◌}
 use mir.Syntax.{w16}
 use mir.Val.{SFits}
 use mir.Facts.{to_z-of_z}
-use Rattle.probe.specs.Header.{settingsOf}
+use Rattle.probe.specs.Header.{settings_of}
 use Rattle.probe.proofs.header.settings_of.Statement.{statement}
 use Rattle.probe.proofs.header.settings_of.Tie as tie
 
@@ -45,7 +45,7 @@ bit-requires-6 : tie.Need-bit-requires-6
 bit-requires-6 c κs = search rules
 
 returns : tie.Need-returns
-unfolding settingsOf
+unfolding settings_of
 returns c = let f : SFits w16 c.before.before.before.before.before.before.before.before.before.before.before.before.signed16.result = search rules in
     let g : SFits w16 c.before.before.before.before.before.before.before.before.before.signed162.result = search rules in
     let inf = to_z-of_z f ∙ c.before.before.before.before.before.before.before.before.before.before.before.before.signed16.ensures in

@@ -1,6 +1,6 @@
 -- `probe::header::stats_of` meets its contract, field by field. Assumes nothing.
 use borrow.Author.Rules.{rules}
-use Rattle.probe.specs.Header.{statsOf}
+use Rattle.probe.specs.Header.{stats_of}
 use Rattle.probe.proofs.header.stats_of.Statement.{statement}
 use Rattle.probe.proofs.header.stats_of.Tie as tie
 
@@ -23,7 +23,7 @@ le64-requires-5 : tie.Need-le64-requires-5
 le64-requires-5 c κs = search rules
 
 returns : tie.Need-returns
-unfolding statsOf
+unfolding stats_of
 returns c = let lookups = c.before.before.before.before.before.before.before.before.le64.ensures in
     let inserts = c.before.before.before.before.before.before.le642.ensures in
     let hits = c.before.before.before.before.le643.ensures in

@@ -6,18 +6,18 @@ use Prim.Native.Nat.{ℕ, ◌+◌, ◌-◌, ◌≤◌}
 use native.Mathlib.Numerals.{add-one}
 use native.Mathlib.Omega.{arith}
 use lib.ListN.{length, set, length-set}
-use Rattle.probe_input.specs.Sent.{wordsFrom}
+use Rattle.probe_input.specs.Sent.{words_from}
 use Rattle.probe_input.proofs.input.decode_words.Statement.{statement}
 use Rattle.probe_input.proofs.input.decode_words.Tie as tie
 
 abbrev invariant-loop : tie.invariant-loop
-invariant-loop chunk n words₀ at i₀ words i = (i ≤ n) × ((length words ≡ length words₀) × (words ≡ wordsFrom chunk words₀ at i))
+invariant-loop chunk n words₀ at i₀ words i = (i ≤ n) × ((length words ≡ length words₀) × (words ≡ words_from chunk words₀ at i))
 
 abbrev decreases-loop : tie.decreases-loop
 decreases-loop chunk n words₀ at i₀ words i = n - i
 
 loop-holds : tie.Need-loop-init invariant-loop decreases-loop
-unfolding wordsFrom
+unfolding words_from
 loop-holds c = (omega arith, (refl, refl))
 
 mul-le64 : tie.Need-overflow-mul-le64 invariant-loop decreases-loop
@@ -42,11 +42,11 @@ loop-less : tie.Need-loop-smaller invariant-loop decreases-loop
 loop-less c = omega arith
 
 loop-again : tie.Need-loop-preserved invariant-loop decreases-loop
-unfolding wordsFrom
+unfolding words_from
 loop-again c = let l = c.before.before.before in
     let a = l.before.before.args in
     let i = l.loop.i in
-    (omega arith, (simp length-set l.loop.invariant.1.0, ap₂ (λ (w : List ℕ) (x : ℕ). set w (a.at + i) x) l.loop.invariant.1.1 c.le64.ensures ∙ sym (ap (wordsFrom a.chunk.now a.words.now a.at) (add-one i))))
+    (omega arith, (simp length-set l.loop.invariant.1.0, ap₂ (λ (w : List ℕ) (x : ℕ). set w (a.at + i) x) l.loop.invariant.1.1 c.le64.ensures ∙ sym (ap (words_from a.chunk.now a.words.now a.at) (add-one i))))
 
 same_length : tie.Need-same-length invariant-loop decreases-loop
 same_length c = search rules
@@ -55,7 +55,7 @@ returns : tie.Need-returns invariant-loop decreases-loop
 returns c = let l = c.before in
     let a = l.before.before.args in
     let e : l.loop.i ≡ a.n = omega arith in
-    l.loop.invariant.1.1 ∙ ap (wordsFrom a.chunk.now a.words.now a.at) e
+    l.loop.invariant.1.1 ∙ ap (words_from a.chunk.now a.words.now a.at) e
 
 pub decode-words-spec : {M : Type 1} → statement M
 decode-words-spec =

@@ -4,7 +4,7 @@ use mathlib.Core.Path.{ap, ◌∙◌}
 use mir.Syntax.{w8, w16}
 use mir.Val.{SFits, to_z}
 use mir.Facts.{to_z-of_z}
-use Rattle.probe_input.specs.Step.{stepAt}
+use Rattle.probe_input.specs.Step.{step_at}
 use Rattle.probe_input.proofs.step.at.Statement.{statement}
 use Rattle.probe_input.proofs.step.at.Tie as tie
 
@@ -57,7 +57,7 @@ le64-requires-2 : tie.Need-le64-requires-2
 le64-requires-2 c κs = search rules
 
 returns : tie.Need-returns
-unfolding stepAt
+unfolding step_at
 returns c = let f : SFits w8 c.before.before.before.before.before.before.of-bits8.result = search rules in
     let g : SFits w16 c.before.before.before.of-bits16.result = search rules in
     let d = to_z-of_z f ∙ c.before.before.before.before.before.before.of-bits8.ensures in

@@ -1,11 +1,11 @@
 -- `probe_text::float::exact` is safe: a float above 0 has bits, and its fraction with the leading 1 has 53 of them. Assumes nothing.
 use Rattle.std.proofs.Common.{rules}
-use Rattle.probe_text.proofs.Floats.{above-nan}
+use Rattle.probe_text.proofs.Floats.{above_nan}
 use Rattle.probe_text.proofs.float.exact.Statement.{statement}
 use Rattle.probe_text.proofs.float.exact.Tie as tie
 
 float-to-bits-bits : tie.Need-float-to-bits-bits
-float-to-bits-bits c = above-nan _ c.before.args.x c.if1.true
+float-to-bits-bits c = above_nan _ c.before.args.x c.if1.true
 
 odd-requires : tie.Need-odd-requires
 odd-requires c κs = search rules

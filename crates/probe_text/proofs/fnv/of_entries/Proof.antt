@@ -2,7 +2,7 @@
 use Rattle.std.proofs.Common.{◌≡◌, ◌-◌, ◌≤◌, length, get_or, pos, refl, ap, ◌∙◌, arith, to_z-of_z, w16, SFits, rules}
 use Rattle.score.specs.Bits.{bits_of}
 use Rattle.probe_text.specs.Fnv.{sum_to}
-use Rattle.probe_text.proofs.Sums.{sum-next}
+use Rattle.probe_text.proofs.Sums.{sum_next}
 use Rattle.probe_text.proofs.fnv.of_entries.Statement.{statement}
 use Rattle.probe_text.proofs.fnv.of_entries.Tie as tie
 
@@ -40,7 +40,7 @@ loop-less c = omega arith
 loop-again : tie.Need-loop-preserved invariant-loop decreases-loop
 loop-again c = let l = c.before.before.before.before in
     let f : SFits w16 (get_or l.before.args.entries.now l.loop.i (pos 0)) = search rules in
-    (omega arith, sum-next _ 2 l.loop.i l.loop.invariant.1 (simp (to_z-of_z f) at c.before.bits16.ensures) c.after.ensures)
+    (omega arith, sum_next _ 2 l.loop.i l.loop.invariant.1 (simp (to_z-of_z f) at c.before.bits16.ensures) c.after.ensures)
 
 returns : tie.Need-returns invariant-loop decreases-loop
 returns c = let l = c.before in

@@ -1,7 +1,7 @@
 -- `probe_text::fnv::of_words` meets its contract. The loop's invariant: the sum over the words passed. Assumes nothing.
 use Rattle.std.proofs.Common.{◌≡◌, ◌-◌, ◌≤◌, length, get_or, refl, ap, ◌∙◌, arith}
 use Rattle.probe_text.specs.Fnv.{sum_to}
-use Rattle.probe_text.proofs.Sums.{sum-next}
+use Rattle.probe_text.proofs.Sums.{sum_next}
 use Rattle.probe_text.proofs.fnv.of_words.Statement.{statement}
 use Rattle.probe_text.proofs.fnv.of_words.Tie as tie
 
@@ -32,7 +32,7 @@ loop-less c = omega arith
 
 loop-again : tie.Need-loop-preserved invariant-loop decreases-loop
 loop-again c = let l = c.before.before.before in
-    (omega arith, sum-next _ 8 l.loop.i l.loop.invariant.1 refl c.after.ensures)
+    (omega arith, sum_next _ 8 l.loop.i l.loop.invariant.1 refl c.after.ensures)
 
 returns : tie.Need-returns invariant-loop decreases-loop
 returns c = let l = c.before in

@@ -1,7 +1,7 @@
 -- `probe_text::text::bytes` meets its contract. The loop's invariant: the bytes left, put after those passed, give the whole. Assumes nothing.
 use Rattle.std.proofs.Common.{◌≡◌, ◌+◌, ◌-◌, ◌≤◌, length, drop, sym, refl, ap, ◌∙◌, arith}
 use Rattle.probe_text.specs.Line.{line_at, puts}
-use Rattle.probe_text.proofs.Lines.{puts-next, puts-end}
+use Rattle.probe_text.proofs.Lines.{puts_next, puts_end}
 use Rattle.probe_text.proofs.text.bytes.Statement.{statement}
 use Rattle.probe_text.proofs.text.bytes.Tie as tie
 
@@ -30,11 +30,11 @@ loop-again : tie.Need-loop-preserved invariant-loop decreases-loop
 loop-again c = let l = c.before.before.before.before in
     let a = l.before.before.args in
     let i = l.loop.i in
-    (omega arith, ap (puts (drop (i + 1) a.s.now)) c.byte.ensures ∙ puts-next a.s.now i (line_at l.loop.line l.loop.n) (omega arith) ∙ l.loop.invariant.1)
+    (omega arith, ap (puts (drop (i + 1) a.s.now)) c.byte.ensures ∙ puts_next a.s.now i (line_at l.loop.line l.loop.n) (omega arith) ∙ l.loop.invariant.1)
 
 returns : tie.Need-returns invariant-loop decreases-loop
 returns c = let l = c.before in
-    sym (puts-end l.before.before.args.s.now l.loop.i (line_at l.loop.line l.loop.n) (omega arith)) ∙ l.loop.invariant.1
+    sym (puts_end l.before.before.args.s.now l.loop.i (line_at l.loop.line l.loop.n) (omega arith)) ∙ l.loop.invariant.1
 
 pub bytes-spec : {M : Type 1} → statement M
 bytes-spec =

@@ -1,7 +1,7 @@
 -- `record::bytes::le16` meets its contract: the number in two bytes. Assumes nothing.
 use native.Mathlib.Omega.{arith}
 use borrow.Author.Rules.{rules}
-use Rattle.record.proofs.LittleEndian.{le-two}
+use Rattle.record.proofs.LittleEndian.{le_two}
 use Rattle.record.proofs.bytes.le16.Statement.{statement}
 use Rattle.record.proofs.bytes.le16.Tie as tie
 
@@ -29,7 +29,7 @@ add-result c = search rules
 returns : tie.Need-returns
 returns c =
     let s = c.before.before.before.before.before in
-    omega (arith, le-two s.args.s.now s.args.at)
+    omega (arith, le_two s.args.s.now s.args.at)
 
 pub le16-spec : {M : Type 1} → statement M
 le16-spec =

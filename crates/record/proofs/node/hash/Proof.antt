@@ -2,8 +2,8 @@
 use mathlib.Core.Path.{◌∙◌}
 use native.Mathlib.Omega.{arith}
 use borrow.Author.Rules.{rules}
-use Rattle.record.specs.Node.{hashOf}
-use Rattle.record.proofs.Places.{record-length, record-le}
+use Rattle.record.specs.Node.{hash_of}
+use Rattle.record.proofs.Places.{record_length, record_le}
 use Rattle.record.proofs.node.hash.Statement.{statement}
 use Rattle.record.proofs.node.hash.Tie as tie
 
@@ -13,13 +13,13 @@ record-requires c κs = search rules
 le64-requires : tie.Need-le64-requires
 le64-requires c κs =
     let s = c.before.before in
-    omega (arith, record-length s.args.tree.now s.args.node c.«record».result.now s.requires c.«record».ensures)
+    omega (arith, record_length s.args.tree.now s.args.node c.«record».result.now s.requires c.«record».ensures)
 
 returns : tie.Need-returns
-unfolding hashOf
+unfolding hash_of
 returns c =
     let s = c.before.before.before in
-    c.le64.ensures ∙ record-le s.args.tree.now s.args.node c.before.«record».result.now s.requires c.before.«record».ensures 8 8 (omega arith)
+    c.le64.ensures ∙ record_le s.args.tree.now s.args.node c.before.«record».result.now s.requires c.before.«record».ensures 8 8 (omega arith)
 
 pub hash-spec : {M : Type 1} → statement M
 hash-spec = tie.close (tie.spec record-requires le64-requires returns)

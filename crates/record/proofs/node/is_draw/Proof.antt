@@ -1,6 +1,6 @@
 -- `record::node::is_draw` meets its contract: `flag` at its place. Assumes nothing.
 use borrow.Author.Rules.{rules}
-use Rattle.record.specs.Node.{isDraw}
+use Rattle.record.specs.Node.{is_draw}
 use Rattle.record.proofs.node.is_draw.Statement.{statement}
 use Rattle.record.proofs.node.is_draw.Tie as tie
 
@@ -8,7 +8,7 @@ flag-requires : tie.Need-flag-requires
 flag-requires c κs = search rules
 
 returns : tie.Need-returns
-unfolding isDraw
+unfolding is_draw
 returns c = c.flag.ensures
 
 pub is-draw-spec : {M : Type 1} → statement M

@@ -1,6 +1,6 @@
 -- `record::node::is_improving` meets its contract: `flag` at its place. Assumes nothing.
 use borrow.Author.Rules.{rules}
-use Rattle.record.specs.Node.{isImproving}
+use Rattle.record.specs.Node.{is_improving}
 use Rattle.record.proofs.node.is_improving.Statement.{statement}
 use Rattle.record.proofs.node.is_improving.Tie as tie
 
@@ -8,7 +8,7 @@ flag-requires : tie.Need-flag-requires
 flag-requires c κs = search rules
 
 returns : tie.Need-returns
-unfolding isImproving
+unfolding is_improving
 returns c = c.flag.ensures
 
 pub is-improving-spec : {M : Type 1} → statement M

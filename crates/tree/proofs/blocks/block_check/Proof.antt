@@ -1,17 +1,17 @@
 -- `tree::blocks::block_check` meets its contract. The loop's invariant: after i words the check is the definition's after i words. Assumes nothing.
 use Rattle.std.proofs.Common.{◌≡◌, ◌-◌, ◌≤◌, refl, ap, ◌∙◌, ap₂, add-one, arith}
-use Rattle.tree.specs.Blocks.{turn_of, checkTo}
+use Rattle.tree.specs.Blocks.{turn_of, check_to}
 use Rattle.tree.proofs.blocks.block_check.Statement.{statement}
 use Rattle.tree.proofs.blocks.block_check.Tie as tie
 
 abbrev invariant-loop : tie.invariant-loop
-invariant-loop tree at check₀ i₀ check i = (i ≤ 127) × (check ≡ checkTo tree at i)
+invariant-loop tree at check₀ i₀ check i = (i ≤ 127) × (check ≡ check_to tree at i)
 
 abbrev decreases-loop : tie.decreases-loop
 decreases-loop tree at check₀ i₀ check i = 127 - i
 
 loop-holds : tie.Need-loop-init invariant-loop decreases-loop
-unfolding checkTo
+unfolding check_to
 loop-holds c = (omega arith, refl)
 
 mul-le32 : tie.Need-overflow-mul-le32 invariant-loop decreases-loop
@@ -33,7 +33,7 @@ loop-less : tie.Need-loop-smaller invariant-loop decreases-loop
 loop-less c = omega arith
 
 loop-again : tie.Need-loop-preserved invariant-loop decreases-loop
-unfolding checkTo
+unfolding check_to
 loop-again c =
     let l = c.before.before.before in
     (omega arith, rw add-one (c.turn.ensures ∙ ap₂ turn_of l.loop.invariant.1 c.before.le32.ensures))
@@ -42,7 +42,7 @@ returns : tie.Need-returns invariant-loop decreases-loop
 returns c =
     let l = c.before in
     let e : l.loop.i ≡ 127 = omega arith in
-    l.loop.invariant.1 ∙ ap (checkTo l.before.before.args.tree.now l.before.before.args.at) e
+    l.loop.invariant.1 ∙ ap (check_to l.before.before.args.tree.now l.before.before.args.at) e
 
 pub block-check-spec : {M : Type 1} → statement M
 block-check-spec =

@@ -1,6 +1,6 @@
 -- `tree::blocks::nodes` meets its contract. Assumes nothing.
 use Rattle.std.proofs.Common.{arith, rules}
-use Rattle.tree.specs.Blocks.{nodesOf}
+use Rattle.tree.specs.Blocks.{nodes_of}
 use Rattle.tree.proofs.blocks.nodes.Statement.{statement}
 use Rattle.tree.proofs.blocks.nodes.Tie as tie
 
@@ -26,7 +26,7 @@ add-result : tie.Need-overflow-add-result
 add-result c = search rules
 
 returns : tie.Need-returns
-unfolding nodesOf
+unfolding nodes_of
 returns c = omega arith
 
 pub nodes-spec : {M : Type 1} → statement M

@@ -3,8 +3,8 @@ use Rattle.std.proofs.Common.{◌≡◌, true, false, pos, ◌-ℤ◌, neg_ℤ, 
 use lib.IntN.{+ℤ_idl}
 use lib.Signed.{le_z}
 use mir.Facts.{to_z_pos, sfits_widen}
-use Rattle.tree.specs.Fields.{evalRight}
-use Rattle.tree.proofs.Within.{most-fits, least_fits, le-turned}
+use Rattle.tree.specs.Fields.{eval_right}
+use Rattle.tree.proofs.Within.{most_fits, least_fits, le_turned}
 use Rattle.tree.proofs.fields.eval_right.Statement.{statement}
 use Rattle.tree.proofs.fields.eval_right.Tie as tie
 
@@ -19,7 +19,7 @@ module _ (c : tie.Start) where
   ply = to_z_pos w32 (omega (arith, c.ranges.max-ply.fits))
 
   most : SFits w32 (c.args.inf -ℤ pos c.args.max-ply)
-  most = most-fits c.args.inf c.args.max-ply c.ranges.inf.sfits c.ranges.max-ply.fits
+  most = most_fits c.args.inf c.args.max-ply c.ranges.inf.sfits c.ranges.max-ply.fits
 
   least : SFits w32 (neg_ℤ (c.args.inf -ℤ pos c.args.max-ply))
   least = least_fits c.args.inf c.args.max-ply c.ranges.inf.sfits c.ranges.max-ply.fits
@@ -50,20 +50,20 @@ sub-if1 : tie.Need-overflow-sub-if1
 sub-if1 c = simp (to_z-of_z c.ranges.inf, to_z-of_z (inf32 c), ply c, to_z-of_z (most c), +ℤ_idl) (least c)
 
 returns : tie.Need-returns
-unfolding evalRight
+unfolding eval_right
 returns c =
     let s = c.before in
-    rw (le-turned s.args.e (neg_ℤ (s.args.inf -ℤ pos s.args.max-ply)), tested c)
+    rw (le_turned s.args.e (neg_ℤ (s.args.inf -ℤ pos s.args.max-ply)), tested c)
 
 cast-result : tie.Need-overflow-cast-result
 cast-result c = simp (to_z-of_z c.before.ranges.e) (e32 c.before)
 
 returns-2 : tie.Need-returns-2
-unfolding evalRight
+unfolding eval_right
 returns-2 c =
     let s = c.before in
     simp (to_z-of_z s.ranges.e, to_z-of_z (e32 s), to_z-of_z s.ranges.inf, to_z-of_z (inf32 s), ply s, to_z-of_z (most s))
-    (rw (le-turned s.args.e (neg_ℤ (s.args.inf -ℤ pos s.args.max-ply)), passed c) refl)
+    (rw (le_turned s.args.e (neg_ℤ (s.args.inf -ℤ pos s.args.max-ply)), passed c) refl)
 
 pub eval-right-spec : {M : Type 1} → statement M
 eval-right-spec =

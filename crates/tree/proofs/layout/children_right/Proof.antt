@@ -1,7 +1,7 @@
 -- `tree::layout::children_right` meets its contract: each return rewrites with the tests that led there. Assumes nothing.
 use Rattle.std.proofs.Common.{refl, rules, le-ltb, lt-ltb, eq-eqb, ne_eqb, le-leb}
 use borrow.Author.Tests.{lt-leb}
-use Rattle.tree.specs.Layout.{childrenRight}
+use Rattle.tree.specs.Layout.{children_right}
 use Rattle.tree.proofs.layout.children_right.Statement.{statement}
 use Rattle.tree.proofs.layout.children_right.Tie as tie
 
@@ -9,11 +9,11 @@ child-count-requires : tie.Need-child-count-requires
 child-count-requires c κs = search rules
 
 returns : tie.Need-returns
-unfolding childrenRight
+unfolding children_right
 returns c = rw (← c.before.child-count.ensures, lt-leb c.before.child-count.result 63 c.if1.true)
 
 returns-2 : tie.Need-returns-2
-unfolding childrenRight
+unfolding children_right
 returns-2 c =
     let n = c.before.before.child-count in
     let s = c.before.before.before.before in
@@ -23,7 +23,7 @@ first-child-requires : tie.Need-first-child-requires
 first-child-requires c κs = search rules
 
 returns-3 : tie.Need-returns-3
-unfolding childrenRight
+unfolding children_right
 returns-3 c =
     let n = c.before.before.before.before.child-count in
     let s = c.before.before.before.before.before.before in
@@ -33,7 +33,7 @@ first-child-requires-2 : tie.Need-first-child-requires-2
 first-child-requires-2 c κs = search rules
 
 returns-4 : tie.Need-returns-4
-unfolding childrenRight
+unfolding children_right
 returns-4 c =
     let n = c.before.before.before.before.child-count in
     let s = c.before.before.before.before.before.before in

@@ -1,9 +1,9 @@
 -- `tree::level::levels_right` meets its contract. The loop's invariant: where level l and the next begin. Assumes nothing.
 use Rattle.std.proofs.Common.{◌≡◌, ◌+◌, ◌-◌, ◌≤◌, eqb, sym, ap, ◌∙◌, ap₂, arith}
 use Rattle.tree.specs.Layout.{start_of}
-use Rattle.tree.specs.Level.{edge, levelsRight}
-use Rattle.tree.proofs.Blocked.{length-least}
-use Rattle.tree.proofs.Levels.{edge_none, edge-one, edge_more, edge_in, edge-step}
+use Rattle.tree.specs.Level.{edge, levels_right}
+use Rattle.tree.proofs.Blocked.{length_least}
+use Rattle.tree.proofs.Levels.{edge_none, edge_one, edge_more, edge_in, edge_step}
 use Rattle.tree.proofs.level.levels_right.Statement.{statement}
 use Rattle.tree.proofs.level.levels_right.Tie as tie
 
@@ -14,7 +14,7 @@ abbrev decreases-loop : tie.decreases-loop
 decreases-loop tree begin₀ next₀ l₀ begin next l = 101 - l
 
 loop-holds : tie.Need-loop-init invariant-loop decreases-loop
-loop-holds c = (omega arith, sym (edge_none _), sym (edge-one _))
+loop-holds c = (omega arith, sym (edge_none _), sym (edge_one _))
 
 start-from-requires : tie.Need-start-from-requires invariant-loop decreases-loop
 start-from-requires c κs =
@@ -24,7 +24,7 @@ start-from-requires c κs =
     let i = l.loop.invariant in (
       s.requires,
       (
-        omega (arith, i.1, i.2, edge-step t s.requires l.loop.l),
+        omega (arith, i.1, i.2, edge_step t s.requires l.loop.l),
         (
           omega (arith, i.2, edge_in t s.requires (l.loop.l + 1)),
           i.2 ∙ edge_more t l.loop.l ∙ ap (start_of t) (sym i.1),
@@ -47,10 +47,10 @@ loop-again c =
 nodes-requires : tie.Need-nodes-requires invariant-loop decreases-loop
 nodes-requires c κs =
     let s = c.before.before.before in
-    length-least s.args.tree.now s.requires.blocked
+    length_least s.args.tree.now s.requires.blocked
 
 returns : tie.Need-returns invariant-loop decreases-loop
-unfolding levelsRight
+unfolding levels_right
 returns c =
     let l = c.before.before in
     let t = l.before.before.args.tree.now in

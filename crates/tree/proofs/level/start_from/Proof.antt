@@ -1,8 +1,8 @@
 -- `tree::level::start_from` meets its contract. The loop's invariant: the sum is where the children of node k begin. Assumes nothing.
 use Rattle.std.proofs.Common.{◌≡◌, ◌+◌, ◌-◌, ◌≤◌, ap, ◌∙◌, arith}
 use Rattle.tree.specs.Layout.{start_of}
-use Rattle.tree.proofs.Blocked.{nodes-most, record-in}
-use Rattle.tree.proofs.Laid.{start-more, start-in}
+use Rattle.tree.proofs.Blocked.{nodes_most, record_in}
+use Rattle.tree.proofs.Laid.{start_more, start_in}
 use Rattle.tree.proofs.level.start_from.Statement.{statement}
 use Rattle.tree.proofs.level.start_from.Tie as tie
 
@@ -19,13 +19,13 @@ child-count-requires : tie.Need-child-count-requires invariant-loop decreases-lo
 child-count-requires c κs =
     let l = c.before in
     let s = l.before.before in
-    record-in s.args.tree.now s.requires.0.blocked l.loop.k (omega arith)
+    record_in s.args.tree.now s.requires.0.blocked l.loop.k (omega arith)
 
 add-sum : tie.Need-overflow-add-sum invariant-loop decreases-loop
 add-sum c =
     let l = c.before.before in
     let s = l.before.before in
-    omega (arith, l.loop.invariant.1, c.child-count.ensures, start-more s.args.tree.now l.loop.k, start-in s.args.tree.now s.requires.0 (l.loop.k + 1) (omega arith), nodes-most s.args.tree.now s.requires.0.blocked)
+    omega (arith, l.loop.invariant.1, c.child-count.ensures, start_more s.args.tree.now l.loop.k, start_in s.args.tree.now s.requires.0 (l.loop.k + 1) (omega arith), nodes_most s.args.tree.now s.requires.0.blocked)
 
 add-k : tie.Need-overflow-add-k invariant-loop decreases-loop
 add-k c = omega arith
@@ -37,7 +37,7 @@ loop-again : tie.Need-loop-preserved invariant-loop decreases-loop
 loop-again c =
     let l = c.before.before in
     let s = l.before.before in
-    (omega arith, omega (arith, l.loop.invariant.1, c.child-count.ensures, start-more s.args.tree.now l.loop.k))
+    (omega arith, omega (arith, l.loop.invariant.1, c.child-count.ensures, start_more s.args.tree.now l.loop.k))
 
 returns : tie.Need-returns invariant-loop decreases-loop
 returns c =

@@ -9,9 +9,9 @@ use mir.Syntax.{w16}
 use mir.Val.{SFits, to_z, of_z}
 use mir.Facts.{to_z-of_z}
 use Rattle.score.specs.Wrap.{add16}
-use Rattle.tree.proofs.Blocked.{record-in}
-use Rattle.carry.proofs.Margins.{margin-fits, margin-is}
-use Rattle.turn.proofs.Tested.{futile-off, futile-full, futile-deep, futile-check, futile-giving, futile-noisy, futile-last}
+use Rattle.tree.proofs.Blocked.{record_in}
+use Rattle.carry.proofs.Margins.{margin_fits, margin_is}
+use Rattle.turn.proofs.Tested.{futile_off, futile_full, futile_deep, futile_check, futile_giving, futile_noisy, futile-last}
 use Rattle.turn.proofs.prune.futile.Statement.{statement}
 use Rattle.turn.proofs.prune.futile.Tie as tie
 
@@ -29,42 +29,42 @@ sum c =
     let s = c.before.before.before.before.before.before.before.before.before.before.before.before.before.before.before in
     let l = c.before.before.before.before.before.before.before.before.before.if3.false in
     to_z-of_z (sum_fits c)
-    ∙ (simp (to_z-of_z (eval-fits s), margin-is 50 s.args.here.depth (omega (arith, l)) (omega (arith, l))) at c.add16.ensures)
+    ∙ (simp (to_z-of_z (eval-fits s), margin_is 50 s.args.here.depth (omega (arith, l)) (omega (arith, l))) at c.add16.ensures)
 
 returns : tie.Need-returns
-returns c = let s = c.before.before.before in futile-off s.args.tree.now s.args.set s.args.here s.args.loc s.args.c (not-true s.args.set.futility c.if1.true)
+returns c = let s = c.before.before.before in futile_off s.args.tree.now s.args.set s.args.here s.args.loc s.args.c (not-true s.args.set.futility c.if1.true)
 
 returns-2 : tie.Need-returns-2
-returns-2 c = let s = c.before.before.before.before in futile-full s.args.tree.now s.args.set s.args.here s.args.loc s.args.c c.if2.true
+returns-2 c = let s = c.before.before.before.before in futile_full s.args.tree.now s.args.set s.args.here s.args.loc s.args.c c.if2.true
 
 returns-3 : tie.Need-returns-3
-returns-3 c = let s = c.before.before.before.before.before.before in futile-deep s.args.tree.now s.args.set s.args.here s.args.loc s.args.c (omega (arith, c.if3.true))
+returns-3 c = let s = c.before.before.before.before.before.before in futile_deep s.args.tree.now s.args.set s.args.here s.args.loc s.args.c (omega (arith, c.if3.true))
 
 in-check-requires : tie.Need-in-check-requires
-in-check-requires c κs = let s = c.before.before.before.before.before.before in record-in s.args.tree.now s.requires.0 s.args.here.node s.requires.1.0
+in-check-requires c κs = let s = c.before.before.before.before.before.before in record_in s.args.tree.now s.requires.0 s.args.here.node s.requires.1.0
 
 returns-4 : tie.Need-returns-4
-returns-4 c = let s = c.before.before.before.before.before.before.before.before in futile-check s.args.tree.now s.args.set s.args.here s.args.loc s.args.c (sym c.before.in-check.ensures ∙ c.if4.true)
+returns-4 c = let s = c.before.before.before.before.before.before.before.before in futile_check s.args.tree.now s.args.set s.args.here s.args.loc s.args.c (sym c.before.in-check.ensures ∙ c.if4.true)
 
 in-check-requires-2 : tie.Need-in-check-requires-2
-in-check-requires-2 c κs = let s = c.before.before.before.before.before.before.before.before in record-in s.args.tree.now s.requires.0 s.args.c s.requires.1.1
+in-check-requires-2 c κs = let s = c.before.before.before.before.before.before.before.before in record_in s.args.tree.now s.requires.0 s.args.c s.requires.1.1
 
 returns-5 : tie.Need-returns-5
-returns-5 c = let s = c.before.before.before.before.before.before.before.before.before.before in futile-giving s.args.tree.now s.args.set s.args.here s.args.loc s.args.c (sym c.before.in-check2.ensures ∙ c.if5.true)
+returns-5 c = let s = c.before.before.before.before.before.before.before.before.before.before in futile_giving s.args.tree.now s.args.set s.args.here s.args.loc s.args.c (sym c.before.in-check2.ensures ∙ c.if5.true)
 
 is-quiet-requires : tie.Need-is-quiet-requires
-is-quiet-requires c κs = let s = c.before.before.before.before.before.before.before.before.before.before in record-in s.args.tree.now s.requires.0 s.args.c s.requires.1.1
+is-quiet-requires c κs = let s = c.before.before.before.before.before.before.before.before.before.before in record_in s.args.tree.now s.requires.0 s.args.c s.requires.1.1
 
 returns-6 : tie.Need-returns-6
 returns-6 c =
     let s = c.before.before.before.before.before.before.before.before.before.before.before.before in
-    futile-noisy s.args.tree.now s.args.set s.args.here s.args.loc s.args.c (sym c.before.is-quiet.ensures ∙ not-true c.before.is-quiet.result c.if6.true)
+    futile_noisy s.args.tree.now s.args.set s.args.here s.args.loc s.args.c (sym c.before.is-quiet.ensures ∙ not-true c.before.is-quiet.result c.if6.true)
 
 cast-add16 : tie.Need-overflow-cast-add16
 cast-add16 c = search rules
 
 mul-add16 : tie.Need-overflow-mul-add16
-mul-add16 c = let l = c.before.before.before.before.before.before.before.if3.false in margin-fits 50 c.before.before.before.before.before.before.before.before.before.before.before.before.before.args.here.depth (omega (arith, l)) (omega (arith, l))
+mul-add16 c = let l = c.before.before.before.before.before.before.before.if3.false in margin_fits 50 c.before.before.before.before.before.before.before.before.before.before.before.before.before.args.here.depth (omega (arith, l)) (omega (arith, l))
 
 add16-requires : tie.Need-add16-requires
 add16-requires c κs = search rules

@@ -3,7 +3,7 @@ use lib.IntN.{◌+ℤ◌}
 use mir.Syntax.{w32}
 use mir.Val.{SFits}
 use mir.Facts.{to_z-of_z, sfits_widen}
-use Rattle.turn.proofs.Negated.{sum_fits, least-not-above, sum-is-above}
+use Rattle.turn.proofs.Negated.{sum_fits, least_not_above, sum_is_above}
 use Rattle.turn.proofs.window.beats.Statement.{statement}
 use Rattle.turn.proofs.window.beats.Tie as tie
 
@@ -20,7 +20,7 @@ module _ (c : tie.Start) where
 returns : tie.Need-returns
 returns c =
     let s = c.before in
-    least-not-above s.args.alpha s.args.score s.ranges.alpha.sfits s.ranges.score.sfits (simp (to_z-of_z s.ranges.score) at c.if1.true)
+    least_not_above s.args.alpha s.args.score s.ranges.alpha.sfits s.ranges.score.sfits (simp (to_z-of_z s.ranges.score) at c.if1.true)
 
 cast-result : tie.Need-overflow-cast-result
 cast-result c = simp (to_z-of_z c.before.ranges.alpha) (alpha32 c.before)
@@ -37,7 +37,7 @@ returns-2 : tie.Need-returns-2
 returns-2 c =
     let s = c.before in
     simp (to_z-of_z s.ranges.alpha, to_z-of_z (alpha32 s), to_z-of_z s.ranges.score, to_z-of_z (score32 s), to_z-of_z (sum32 s))
-    (sum-is-above s.args.alpha s.args.score s.ranges.alpha.sfits s.ranges.score.sfits (simp (to_z-of_z s.ranges.score) at c.if1.false))
+    (sum_is_above s.args.alpha s.args.score s.ranges.alpha.sfits s.ranges.score.sfits (simp (to_z-of_z s.ranges.score) at c.if1.false))
 
 pub beats-spec : {M : Type 1} → statement M
 beats-spec = tie.close (tie.spec returns cast-result cast-result-2 add-result returns-2)

@@ -4,7 +4,7 @@ use borrow.Author.Rules.{rules}
 use mir.Syntax.{w16}
 use mir.Val.{SFits, to_z, of_z}
 use mir.Facts.{to_z-of_z}
-use Rattle.tree.proofs.Blocked.{record-in}
+use Rattle.tree.proofs.Blocked.{record_in}
 use Rattle.score.specs.Wrap.{neg16}
 use Rattle.score.proofs.Bits.{through, said}
 use Rattle.turn.proofs.window.first.Statement.{statement}
@@ -26,7 +26,7 @@ neg16-requires : tie.Need-neg16-requires
 neg16-requires c κs = search rules
 
 move-to-requires : tie.Need-move-to-requires
-move-to-requires c κs = let s = c.before.before.before.before in record-in s.args.tree.now s.requires.0 s.args.c s.requires.1
+move-to-requires c κs = let s = c.before.before.before.before in record_in s.args.tree.now s.requires.0 s.args.c s.requires.1
 
 returns : tie.Need-returns
 returns c = simp (to_z-of_z (alpha-fits c.before.before.before.before.before.before), best c.before.before, c.before.move-to.ensures)

@@ -6,7 +6,7 @@ use mir.Syntax.{w16}
 use mir.Val.{SFits}
 use mir.Facts.{to_z-of_z}
 use Rattle.score.specs.Wrap.{neg16}
-use Rattle.turn.specs.Window.{insideOf}
+use Rattle.turn.specs.Window.{inside_of}
 use Rattle.turn.proofs.window.inside.Statement.{statement}
 use Rattle.turn.proofs.window.inside.Tie as tie
 
@@ -32,14 +32,14 @@ told c =
     sym (simp (to_z-of_z (alpha-fits s), to_z-of_z (score-fits s)) at c.beats.ensures)
 
 returns : tie.Need-returns
-unfolding insideOf
+unfolding inside_of
 returns c =
     let t = c.before.before.before in
     let s = t.before.before.before.before in
     simp (told t.before ∙ t.if1.true, simp (to_z-of_z (beta-fits s), to_z-of_z (score-fits s)) at c.under.ensures)
 
 returns-2 : tie.Need-returns-2
-unfolding insideOf
+unfolding inside_of
 returns-2 c = simp (told c.before ∙ c.if1.false)
 
 pub inside-spec : {M : Type 1} → statement M

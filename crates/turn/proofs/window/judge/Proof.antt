@@ -6,7 +6,7 @@ use mir.Val.{SFits, to_z, of_z}
 use mir.Facts.{to_z-of_z}
 use Rattle.score.specs.Wrap.{neg16}
 use Rattle.score.proofs.Bits.{through, said}
-use Rattle.turn.specs.Window.{raiseIf, judgeOf}
+use Rattle.turn.specs.Window.{raise_if, judge_of}
 use Rattle.turn.proofs.window.judge.Statement.{statement}
 use Rattle.turn.proofs.window.judge.Tie as tie
 
@@ -32,7 +32,7 @@ neg16-requires : tie.Need-neg16-requires
 neg16-requires c κs = search rules
 
 returns : tie.Need-returns
-unfolding judgeOf raiseIf
+unfolding judge_of raise_if
 returns c =
     let s = c.before.before.before.before.before.before.before.before in
     simp (to_z-of_z (beta-fits s), turned c.before.before.before.before.before.before, simp (to_z-of_z (alpha-fits s), turned c.before.before.before.before.before.before) at c.before.before.if1.true)
@@ -41,7 +41,7 @@ unfinished-requires : tie.Need-unfinished-requires
 unfinished-requires c κs = search rules
 
 returns-2 : tie.Need-returns-2
-unfolding judgeOf raiseIf
+unfolding judge_of raise_if
 returns-2 c =
     let s = c.before.before.before.before.before.before.before.before in
     c.unfinished.ensures

@@ -3,7 +3,7 @@ use lib.IntN.{◌+ℤ◌}
 use mir.Syntax.{w32}
 use mir.Val.{SFits}
 use mir.Facts.{to_z-of_z, sfits_widen}
-use Rattle.turn.proofs.Negated.{sum_fits, least-below, sum-is-below}
+use Rattle.turn.proofs.Negated.{sum_fits, least_below, sum_is_below}
 use Rattle.turn.proofs.window.under.Statement.{statement}
 use Rattle.turn.proofs.window.under.Tie as tie
 
@@ -21,7 +21,7 @@ returns : tie.Need-returns
 returns c =
     let s = c.before in
     simp (to_z-of_z s.ranges.beta)
-    (least-below s.args.beta s.args.score s.ranges.beta.sfits s.ranges.score.sfits (simp (to_z-of_z s.ranges.score) at c.if1.true))
+    (least_below s.args.beta s.args.score s.ranges.beta.sfits s.ranges.score.sfits (simp (to_z-of_z s.ranges.score) at c.if1.true))
 
 cast-result : tie.Need-overflow-cast-result
 cast-result c = simp (to_z-of_z c.before.ranges.beta) (beta32 c.before)
@@ -38,7 +38,7 @@ returns-2 : tie.Need-returns-2
 returns-2 c =
     let s = c.before in
     simp (to_z-of_z s.ranges.beta, to_z-of_z (beta32 s), to_z-of_z s.ranges.score, to_z-of_z (score32 s), to_z-of_z (sum32 s))
-    (sum-is-below s.args.beta s.args.score s.ranges.beta.sfits s.ranges.score.sfits (simp (to_z-of_z s.ranges.score) at c.if1.false))
+    (sum_is_below s.args.beta s.args.score s.ranges.beta.sfits s.ranges.score.sfits (simp (to_z-of_z s.ranges.score) at c.if1.false))
 
 pub under_spec : {M : Type 1} → statement M
 under_spec = tie.close (tie.spec returns cast-result cast-result-2 add-result returns-2)
