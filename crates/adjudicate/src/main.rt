@@ -1,11 +1,13 @@
 // The program: reads a tree from standard input and prints the line that answers it.
+#![tactic(auto)]
+
 ghost use Rattle.std.specs.Prelude.{◌≡◌, length};
 ghost use Rattle.adjudicate.specs.Input.{step_of, Taken};
 
 use libc::STDIN_FILENO;
 
 // What one read came to: bytes, the input's end, or a failure.
-#[derive(Drop)]
+#[derive(Clone, Copy)]
 enum Step {
     More(usize),
     End,
@@ -13,7 +15,7 @@ enum Step {
 }
 
 // What all reads came to: so many bytes up to the input's end or the buffer's, or a failure.
-#[derive(Drop)]
+#[derive(Clone, Copy)]
 enum Input {
     Bytes(usize),
     Failed,

@@ -1,4 +1,6 @@
 // Functions that C or Rust can link: `rt staticlib adjudication` writes target/staticlib/libadjudication.a.
+#![tactic(auto)]
+
 ghost use Rattle.std.specs.Prelude.{◌≡◌, ◌<◌};
 ghost use Rattle.tree.specs.Refusal.{tree_refusal};
 ghost use Rattle.table.specs.Stats.{zeroed};

@@ -1,4 +1,6 @@
 // Captures (000, quiescence): standing pat, the table, then the noisy children, each a capture visit again.
+#![tactic(auto)]
+
 ghost use Rattle.std.specs.Prelude.{◌≡◌, ℕ, ◌+◌, ◌-◌, ◌≤◌, ◌<◌, length};
 ghost use Rattle.tree.specs.Blocks.{nodes_of};
 ghost use Rattle.state.specs.State.{over};

@@ -1,8 +1,10 @@
 // What a node's visit carries: its arguments, what stays the same in it, what its walk of the moves changes.
+#![tactic(auto)]
+
 use state::{Out, State};
 
 // The arguments of a visit.
-#[derive(Drop)]
+#[derive(Clone, Copy)]
 pub struct Args {
     pub node: usize,
     pub side: u8,
@@ -13,7 +15,7 @@ pub struct Args {
 }
 
 // What stays the same in one visit: `old` is the alpha of entry, `depth` has the check's extension, `full` tells a full window.
-#[derive(Drop)]
+#[derive(Clone, Copy)]
 pub struct Here {
     pub node: usize,
     pub side: u8,
@@ -26,7 +28,7 @@ pub struct Here {
 }
 
 // What the walk carries: alpha, the score and the move to be stored, the state.
-#[derive(Drop)]
+#[derive(Clone, Copy)]
 pub struct Loc {
     pub state: State,
     pub alpha: i16,
@@ -35,14 +37,14 @@ pub struct Loc {
 }
 
 // What a turn of the walk leaves; `done` where it cut.
-#[derive(Drop)]
+#[derive(Clone, Copy)]
 pub struct Turn {
     pub loc: Loc,
     pub done: bool,
 }
 
 // What the steps before the moves leave: an answer, or the moves to be made.
-#[derive(Drop)]
+#[derive(Clone, Copy)]
 pub enum Entered {
     Answer(Out),
     Moves(Here, Loc),

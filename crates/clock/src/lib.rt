@@ -1,4 +1,6 @@
 // The clock of 004, which goes in by value and comes back. An operation gives the new clock, or the refusal of 01's row 10.
+#![tactic(auto)]
+
 ghost use Rattle.std.specs.Prelude.{◌≡◌, false, ◌<◌, ◌≤◌};
 ghost use Rattle.clock.specs.Answers.{told, told_poll, told_time};
 ghost use Rattle.clock.specs.Refusals.{ply_out, time_over, now_out, allocation_refused, poll_refused};
@@ -7,7 +9,7 @@ ghost use Rattle.clock.specs.Ticks.{new_clock, new_of, remaining_of, start_of, s
 // 2^32 - 1: the longest time, and the longest that a clock runs, in milliseconds.
 const LONGEST: u64 = 4294967295;
 
-#[derive(Drop)]
+#[derive(Clone, Copy)]
 pub struct Clock {
     // Moves from one time control to the next, 0 where there is none.
     pub level: u16,
@@ -24,14 +26,14 @@ pub struct Clock {
 }
 
 // The new clock, or refusal 10.
-#[derive(Drop)]
+#[derive(Clone, Copy)]
 pub enum Ticked {
     Went(Clock),
     Refused,
 }
 
 // The milliseconds for a move, or refusal 10.
-#[derive(Drop)]
+#[derive(Clone, Copy)]
 pub enum Allotted {
     Of(u64),
     Refused,

@@ -1,5 +1,7 @@
 // Reads trees from standard input, each as its length (4 bytes, little-endian) and its bytes, until the input ends,
 // and prints a line for each: its number from 0, and the line that the program answers it with.
+#![tactic(auto)]
+
 use libc::{STDIN_FILENO, STDOUT_FILENO};
 
 // The line that ends a run whose input is cut short, or announces a longer tree than the buffer holds.

@@ -13,7 +13,7 @@ use state::{Out, Settings, State};
 use table::Stats;
 
 // Where a node search begins.
-#[derive(Drop)]
+#[derive(Clone, Copy)]
 pub struct Start {
     pub node: u64,
     pub alpha: i16,

@@ -1,4 +1,6 @@
 // The steps of a node's visit before its moves: extension, draw, table, reverse futility, inner deepening's own, the hint's place.
+#![tactic(auto)]
+
 ghost use Rattle.std.specs.Prelude.{◌≡◌, ◌≤◌, ◌<◌, length};
 ghost use Rattle.tree.specs.Blocks.{Blocked, nodes_of};
 ghost use Rattle.tree.specs.Layout.{Laid};

@@ -1,16 +1,18 @@
 // The history's public entries: delta takes HH_MAX alone; bonus and malus take HH_MAX, the side and the lent entries. `hh` is HH_MAX.
+#![tactic(auto)]
+
 ghost use Rattle.std.specs.Prelude.{◌≡◌, true, ◌≤◌, pos, nat_abs, length};
 ghost use Rattle.std.specs.Int.Signed.{le_z};
 ghost use Rattle.histories.specs.Histories.{over_history, entry_given, entry_refused, bonus_entry, malus_entry, delta_entry};
 
-#[derive(Drop)]
+#[derive(Clone, Copy)]
 pub struct DeltaResult {
     pub refusal: u8,
     pub delta: i16,
 }
 
 // The entry after a bonus or a malus, 0 where it is refused.
-#[derive(Drop)]
+#[derive(Clone, Copy)]
 pub struct EntryResult {
     pub refusal: u8,
     pub entry: i16,

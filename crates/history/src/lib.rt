@@ -1,5 +1,7 @@
 // History: the delta of a depth, the gravity that keeps an entry in range, and the lent entries, one for each side and move.
 // `hh` is the setting HH_MAX throughout.
+#![tactic(auto)]
+
 ghost use Rattle.std.specs.Prelude.{◌≡◌, ◌<◌, ◌≤◌, ◌/◌, nat_abs, pos, length};
 ghost use Rattle.history.specs.Gravity.{curve, delta_of, gravity_of};
 ghost use Rattle.history.specs.Entries.{index_of, update_of, bonus_of, malus_of, clear_of, within_of};

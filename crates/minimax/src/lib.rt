@@ -1,2 +1,4 @@
 // The extended minimax is a definition; no code computes it.
+#![tactic(auto)]
+
 fn nothing() {}

@@ -1,4 +1,6 @@
 // The order of the moves: the hint's first, the rest as stored.
+#![tactic(auto)]
+
 ghost use Rattle.std.specs.Prelude.{◌≡◌, ◌+◌, ◌≤◌, ◌<◌};
 ghost use Rattle.tree.specs.Blocks.{Blocked, nodes_of};
 ghost use Rattle.moves.specs.Order.{place_of, order_at, child_of};
@@ -6,7 +8,7 @@ ghost use Rattle.moves.specs.Order.{place_of, order_at, child_of};
 use record::node;
 
 // Where a hint stands among the children.
-#[derive(Drop)]
+#[derive(Clone, Copy)]
 pub enum Place {
     At(usize),
     Nowhere,

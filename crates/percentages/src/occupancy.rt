@@ -6,7 +6,7 @@ ghost use Rattle.percentages.specs.Occupancy.{more, counts_to, occupancy_of, Exa
 use transposition::Bound;
 
 // How many entries there are of each bound.
-#[derive(Drop)]
+#[derive(Clone, Copy)]
 pub struct Counts {
     pub exact: u64,
     pub lower: u64,
@@ -14,7 +14,7 @@ pub struct Counts {
 }
 
 // Of each bound, its entries times 100 over all the table's places.
-#[derive(Drop)]
+#[derive(Clone, Copy)]
 pub struct Occupancy {
     pub exact: f64,
     pub lower: f64,

@@ -4,7 +4,7 @@ ghost use Rattle.percentages.specs.Rate.{said, rate_of};
 
 use table::Stats;
 
-#[derive(Drop)]
+#[derive(Clone, Copy)]
 pub enum Rate {
     Share(f64),
     NoLookups,

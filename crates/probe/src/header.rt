@@ -9,7 +9,7 @@ use record::bytes;
 use state::Settings;
 use table::Stats;
 
-#[derive(Drop)]
+#[derive(Clone, Copy)]
 pub struct Header {
     pub kind: u8,
     pub set: Settings,

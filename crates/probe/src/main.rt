@@ -1,4 +1,6 @@
 // The probe: reads requests from standard input until it ends, and answers each with lines on standard output.
+#![tactic(auto)]
+
 mod answers; // answers.rt: kinds 1 to 4
 mod header; // header.rt: a request's header
 

@@ -6,14 +6,14 @@ use libc::STDIN_FILENO;
 use record::bytes;
 
 // Whether the table's words and the history's entries are sent; else they are all zero.
-#[derive(Drop)]
+#[derive(Clone, Copy)]
 pub struct Sent {
     pub words: bool,
     pub entries: bool,
 }
 
 // How a part was filled: wholly, not at all since the input had ended, cut short by its end, or a read failed.
-#[derive(Drop)]
+#[derive(Clone, Copy)]
 pub enum Filled {
     Whole,
     Empty,

@@ -4,7 +4,7 @@ ghost use Rattle.probe_input.specs.Step.{step_at};
 
 use record::bytes;
 
-#[derive(Drop)]
+#[derive(Clone, Copy)]
 pub struct Step {
     pub operation: u8,
     pub d: i8,

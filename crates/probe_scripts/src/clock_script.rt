@@ -5,7 +5,7 @@ use probe_input::step::Step;
 use probe_text::text;
 
 // What a step leaves; not `known` where the script has no such operation.
-#[derive(Drop)]
+#[derive(Clone, Copy)]
 struct Tick {
     known: bool,
     refusal: u8,

@@ -9,7 +9,7 @@ use tables::{LookupResult, StatsResult};
 use transposition::Entry;
 
 // What a step leaves: the age and counters, and whether the script goes on.
-#[derive(Drop)]
+#[derive(Clone, Copy)]
 struct Stepped {
     goes_on: bool,
     stats: Stats,

@@ -5,7 +5,7 @@ ghost use Rattle.probe_text.specs.Float.{Halves};
 use crate::text;
 
 // What is left of a number that was halved so many times.
-#[derive(Drop)]
+#[derive(Clone, Copy)]
 struct Halved {
     left: u64,
     times: usize,

@@ -1,4 +1,6 @@
 // What the probe writes: a line of an answer, a float written exactly, and the sums over what was lent.
+#![tactic(auto)]
+
 pub mod float; // float.rt: a float written exactly
 pub mod fnv; // fnv.rt: the sums over table and history
 pub mod text; // text.rt: a line of an answer

@@ -1,4 +1,6 @@
 // The line that the program answers a tree with: 01's settings, the search with them, and the printing.
+#![tactic(auto)]
+
 ghost use Rattle.std.specs.Prelude.{◌≡◌, take};
 ghost use Rattle.io.specs.Counts.{IsPrefixLen};
 ghost use Rattle.program.specs.Program.{program_settings, fresh_stats, program_entry, program_line};

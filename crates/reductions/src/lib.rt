@@ -1,4 +1,6 @@
 // The reductions of late moves: a constant table, a row for each depth and a column for each count of moves.
+#![tactic(auto)]
+
 mod lmr;
 
 ghost use Rattle.std.specs.Prelude.{◌≡◌, ◌*◌, ◌/◌, ◌%◌, ◌^◌, ◌<◌, ◌≤◌};

@@ -2,7 +2,7 @@
 // copies to memory.
 
 // 16 columns in each number, the first of them in its lowest digit.
-#[derive(Drop)]
+#[derive(Clone, Copy)]
 pub struct Quarters {
     pub first: u64,
     pub second: u64,

@@ -1,4 +1,6 @@
 // The refusal table of 01: a function for each row, or for the part of a row that an entry takes, and the rows' order.
+#![tactic(auto)]
+
 ghost use Rattle.std.specs.Prelude.{◌≡◌, true, pos};
 ghost use Rattle.std.specs.Int.Signed.{le_z};
 ghost use Rattle.tree.specs.Blocks.{Blocked};

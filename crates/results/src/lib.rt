@@ -1,8 +1,10 @@
 // What the searches answer: all numbers 0 but the refusal's where a search is refused, with age and counters as they went in.
+#![tactic(auto)]
+
 use table::Stats;
 
 // A node search's.
-#[derive(Drop)]
+#[derive(Clone, Copy)]
 pub struct NodeResult {
     pub refusal: u8,
     pub score: i16,
@@ -12,7 +14,7 @@ pub struct NodeResult {
 }
 
 // A root search's. `depth` is the last one whose move was saved; where none was, score, move and depth are 0.
-#[derive(Drop)]
+#[derive(Clone, Copy)]
 pub struct RootResult {
     pub refusal: u8,
     pub score: i16,

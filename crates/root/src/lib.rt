@@ -1,4 +1,6 @@
 // The root search (000, search_root): depths from start to end - 1, each a walk over the root's moves.
+#![tactic(auto)]
+
 ghost use Rattle.std.specs.Prelude.{◌≡◌, ℕ, ◌-◌, ◌≤◌, ◌<◌};
 ghost use Rattle.moves.specs.Kid.{Kid};
 ghost use Rattle.carry.specs.Carry.{with};

@@ -1,4 +1,6 @@
 // The steps of a root search that visit no node.
+#![tactic(auto)]
+
 ghost use Rattle.std.specs.Prelude.{◌≡◌, ◌≤◌, ◌<◌, length};
 ghost use Rattle.tree.specs.Blocks.{Blocked, nodes_of};
 ghost use Rattle.tree.specs.Layout.{Laid};
@@ -14,7 +16,7 @@ use table::Stats;
 use transposition::Bound;
 
 // What was saved last: a score, its move and its depth; all 0 where nothing was.
-#[derive(Drop)]
+#[derive(Clone, Copy)]
 pub struct Best {
     pub score: i16,
     pub mv: u16,
@@ -22,7 +24,7 @@ pub struct Best {
 }
 
 // What the depths leave: the last saved, the best scores of the three depths before, whether the search is over, the state.
-#[derive(Drop)]
+#[derive(Clone, Copy)]
 pub struct Depths {
     pub best: Best,
     pub one: i16,
@@ -33,7 +35,7 @@ pub struct Depths {
 }
 
 // What a walk over the root's moves leaves: whether a move was made, the best score and its move (0: none), the state.
-#[derive(Drop)]
+#[derive(Clone, Copy)]
 pub struct Walked {
     pub any: bool,
     pub alpha: i16,

@@ -1,4 +1,6 @@
 // Scores: signed 16-bit numbers whose sums, differences and negations wrap; and two's complement at 16 and 8 bits.
+#![tactic(auto)]
+
 ghost use Rattle.std.specs.Prelude.{◌≡◌, ◌<◌};
 ghost use Rattle.std.specs.Int.Signed.{mag};
 ghost use Rattle.std.specs.Int.{w8, w16};

@@ -1,4 +1,6 @@
 // The node search (000, search_node): a node's visit walks its children, and each child is a visit again.
+#![tactic(auto)]
+
 ghost use Rattle.std.specs.Prelude.{◌≡◌, ℕ, ◌+◌, ◌-◌, ◌*◌, ◌≤◌, ◌<◌, ◌^◌};
 ghost use Rattle.tree.specs.Blocks.{nodes_of};
 ghost use Rattle.moves.specs.Kid.{Kid};

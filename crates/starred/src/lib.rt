@@ -1,2 +1,4 @@
 // 01's starred entries are a statement about definitions; no code computes it.
+#![tactic(auto)]
+
 fn nothing() {}

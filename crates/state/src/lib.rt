@@ -1,4 +1,6 @@
 // What both kinds of visit share: the settings, the state of a search, the poll, the count, and the table through its switch.
+#![tactic(auto)]
+
 ghost use Rattle.std.specs.Prelude.{◌≡◌, ◌≤◌, ◌&&◌, length, int_le};
 ghost use Rattle.state.specs.State.{poll_of, count_node, answer_of, seen_of, over, keep_of};
 ghost use Rattle.state.specs.Consult.{narrowed, use_of, use_if, consult_of, hint_of};
@@ -7,7 +9,7 @@ use table::{Found, Stats};
 use transposition::{Bound, Entry};
 
 // The settings of 01 and its six switches.
-#[derive(Drop)]
+#[derive(Clone, Copy)]
 pub struct Settings {
     pub inf: i16,
     pub max_ply: u16,
@@ -23,7 +25,7 @@ pub struct Settings {
 }
 
 // What a search carries by value: the count of nodes, the stop mark, the table's age and counters.
-#[derive(Drop)]
+#[derive(Clone, Copy)]
 pub struct State {
     pub stats: Stats,
     pub nodes: u64,
@@ -31,21 +33,21 @@ pub struct State {
 }
 
 // What a visit answers.
-#[derive(Drop)]
+#[derive(Clone, Copy)]
 pub struct Out {
     pub state: State,
     pub score: i16,
 }
 
 // What a lookup found, and the state after it.
-#[derive(Drop)]
+#[derive(Clone, Copy)]
 pub struct Seen {
     pub found: Found,
     pub state: State,
 }
 
 // What the table makes of a window: it cuts with a score, or leaves a window and a hint.
-#[derive(Drop)]
+#[derive(Clone, Copy)]
 pub struct Consulted {
     pub cut: bool,
     pub score: i16,

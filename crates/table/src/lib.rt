@@ -1,4 +1,6 @@
 // The transposition table (001) over lent words: what stands at a hash, what a store leaves, the age and the five counters.
+#![tactic(auto)]
+
 ghost use Rattle.std.specs.Prelude.{◌≡◌, ◌+◌, ◌≤◌, length};
 ghost use Rattle.table.specs.Slot.{slot_of, find_of, replaces};
 ghost use Rattle.table.specs.Stats.{looked, inserted, reset_of};
@@ -7,7 +9,7 @@ ghost use Rattle.table.specs.Table.{table_of, lookup_of, store_of, clear_of, wel
 use transposition::{Bound, Entry};
 
 // The age and the five counters, which wrap at 2^64.
-#[derive(Drop)]
+#[derive(Clone, Copy)]
 pub struct Stats {
     pub lookups: u64,
     pub inserts: u64,
@@ -18,7 +20,7 @@ pub struct Stats {
 }
 
 // What stands at a hash.
-#[derive(Drop)]
+#[derive(Clone, Copy)]
 pub enum Found {
     Miss,
     Collision,
@@ -26,7 +28,7 @@ pub enum Found {
 }
 
 // What a lookup found, and the counters after it.
-#[derive(Drop)]
+#[derive(Clone, Copy)]
 pub struct Looked {
     pub found: Found,
     pub stats: Stats,

@@ -1,4 +1,6 @@
 // The table's public entries. Each takes any words and numbers, and refuses a table of a wrong length with 8.
+#![tactic(auto)]
+
 ghost use Rattle.std.specs.Prelude.{◌≡◌};
 ghost use Rattle.state.specs.State.{over};
 ghost use Rattle.tables.specs.Tables.{lookup_given, lookup_refused, lookup_entry, stats_given, stats_refused, store_entry, reset_entry, clear_entry, occupancy_refused, occupancy_entry, OccupancyExact};
@@ -8,7 +10,7 @@ use table::{Found, Looked, Stats};
 use transposition::Bound;
 
 // What a lookup found (a miss where it is refused), and the age and counters after it.
-#[derive(Drop)]
+#[derive(Clone, Copy)]
 pub struct LookupResult {
     pub refusal: u8,
     pub found: Found,
@@ -16,14 +18,14 @@ pub struct LookupResult {
 }
 
 // The age and counters after a store, a reset or a clear; as they went in where it is refused.
-#[derive(Drop)]
+#[derive(Clone, Copy)]
 pub struct StatsResult {
     pub refusal: u8,
     pub stats: Stats,
 }
 
 // The three percentages, all 0 where they are refused.
-#[derive(Drop)]
+#[derive(Clone, Copy)]
 pub struct OccupancyResult {
     pub refusal: u8,
     pub occupancy: Occupancy,

@@ -1,4 +1,6 @@
 // The text of the line: each function puts bytes into a buffer from a place on, and answers the place behind them.
+#![tactic(auto)]
+
 ghost use Rattle.std.specs.Prelude.{◌≡◌, ◌++◌, ◌+◌, ◌≤◌, length, take};
 ghost use Rattle.io.specs.Counts.{IsPrefixLen};
 ghost use Rattle.text.specs.Text.{decimal, signed, mark_of, found_text, spent_text, answer_line, refused_line, line_of, Put};

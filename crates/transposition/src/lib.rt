@@ -1,15 +1,17 @@
 // The entry of the transposition table and its two words (002): a data word that packs the entry, and a hash word.
+#![tactic(auto)]
+
 ghost use Rattle.std.specs.Prelude.{◌≡◌};
 ghost use Rattle.transposition.specs.Word.{bound_byte, bound_of, data_word, entry_of, hash_word};
 
-#[derive(Drop)]
+#[derive(Clone, Copy)]
 pub enum Bound {
     Exact,
     Lower,
     Upper,
 }
 
-#[derive(Drop)]
+#[derive(Clone, Copy)]
 pub struct Entry {
     pub age: u8,
     pub bound: Bound,

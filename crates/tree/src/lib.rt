@@ -1,4 +1,6 @@
 // The tree of blocks: its check, the refusals 1 to 5.
+#![tactic(auto)]
+
 ghost use Rattle.std.specs.Prelude.{◌≡◌};
 ghost use Rattle.tree.specs.Refusal.{tree_refusal};
 

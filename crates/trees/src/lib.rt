@@ -1,4 +1,6 @@
 // The tree's public entries: its check, and a node's record as that part of the lent tree. Each takes any bytes and numbers.
+#![tactic(auto)]
+
 ghost use Rattle.std.specs.Prelude.{◌≡◌};
 ghost use Rattle.tree.specs.Refusal.{handed_part};
 ghost use Rattle.refusals.specs.First.{tree_rows};
