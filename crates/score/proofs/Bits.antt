@@ -1,7 +1,7 @@
 -- Two's complement at any width: the bits of a number below zero, the number that high bits hold, and both ways there and back. Assumes nothing.
 use mathlib.Core.Path.{◌≡◌, refl, sym, ap, ◌∙◌, subst}
 use mathlib.Core.Bool.{Bool, true, false, not}
-use Prim.Native.Nat.{ℕ, zero, suc, ◌+◌, ◌-◌, ◌^◌, ◌<◌, ◌≤◌}
+use Prim.Native.Nat.{ℕ, suc, ◌-◌, ◌^◌, ◌<◌, ◌≤◌}
 use native.Mathlib.Omega.{arith}
 use lib.Dec.{T, ltb, ltb→lt}
 use lib.IntN.{ℤ, pos, negsuc, nat_abs, sub_ℕ, ◌+ℤ◌}
@@ -80,7 +80,7 @@ bits_signed w n h = go (ltb n (2 ^ hbits w)) refl
 
 -- what reaches a proof by its bits is the number itself
 pub back16 : {z : ℤ} → mag z < 32768 → to_z w16 (of_z w16 z) ≡ z
-back16 {z} h = to_z-of_z (record { sfits = h })
+back16 {z} h = to_z-of_z {w = w16} (record { sfits = h })
 
 pub through : {z y : ℤ} → mag z < 32768 → z ≡ y → to_z w16 (of_z w16 z) ≡ y
 through {z} {y} h e = back16 {z = z} h ∙ e

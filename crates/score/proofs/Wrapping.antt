@@ -1,15 +1,15 @@
 -- Laws of numbers that wrap at 16 bits: inside the range wrapping changes nothing, one sum outside of it 2^16 is taken off or added. Assumes nothing.
-use mathlib.Core.Path.{◌≡◌, refl, sym, ap, ◌∙◌, subst}
-use mathlib.Core.Bool.{Bool, true, false, not}
-use Prim.Native.Nat.{ℕ, zero, suc, ◌+◌, ◌-◌, ◌%◌, ◌^◌, ◌<◌, ◌≤◌}
+use mathlib.Core.Path.{◌≡◌, ap, ◌∙◌}
+use mathlib.Core.Bool.{not}
+use Prim.Native.Nat.{ℕ, zero, suc, ◌-◌, ◌%◌, ◌^◌, ◌<◌, ◌≤◌}
 use native.Mathlib.Omega.{arith}
-use lib.Dec.{T, ltb, ltb→lt, nltb→le}
-use lib.IntN.{ℤ, pos, negsuc, neg_ℤ, sub_ℕ, ◌+ℤ◌, ◌-ℤ◌}
+use lib.Dec.{T, ltb→lt, nltb→le}
+use lib.IntN.{ℤ, pos, negsuc, sub_ℕ, ◌+ℤ◌, ◌-ℤ◌}
 use lib.Signed.{mag, lt_z}
 use mir.Syntax.{w16}
 use mir.Val.{to_z}
 use mir.Facts.{to_z_pos, to_z-neg}
-use Rattle.score.specs.Wrap.{low16, wrap16}
+use Rattle.score.specs.Wrap.{wrap16}
 use Rattle.score.proofs.Cases.{sub-ind}
 
 sub_mag : (a b : ℕ) → a < 32768 → b ≤ 32768 → mag (sub_ℕ a b) < 65536

@@ -1,0 +1,16 @@
+-- `percentages::occupancy::counted` meets its contract. The loop's invariant: the counts of the slots before k. Assumes nothing.
+use mathlib.Core.Path.{◌≡◌, refl, sym, ap, ◌∙◌, subst}
+use mathlib.Core.Logic.{⊎_elim}
+use Prim.Native.Nat.{ℕ, ◌-◌, ◌/◌, ◌≤◌}
+use native.Mathlib.Omega.{arith}
+use lib.ListN.{length}
+use Rattle.percentages.specs.Occupancy.{counts_to}
+use Rattle.percentages.specs.declared.occupancy.Counts.{Counts}
+use Rattle.percentages.proofs.Count.{Below, counts_below, taken, skipped}
+use Rattle.percentages.proofs.occupancy.counted.Given as goal
+
+abbrev pub invariant-loop-k : goal.invariant-loop-k
+invariant-loop-k l = (l.k ≤ l.n) × (l.c ≡ counts_to l.words l.k)
+
+abbrev pub decreases-loop-k : goal.decreases-loop-k
+decreases-loop-k l = l.n - l.k

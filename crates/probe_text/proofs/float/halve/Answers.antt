@@ -1,0 +1,23 @@
+-- `probe_text::float::halve` meets its contract, turn by turn. Assumes nothing.
+use Rattle.std.proofs.Common.{◌≡◌, ℕ, ◌+◌, ◌-◌, sym, refl, subst, inr, ⊎_elim, mul-one, arith}
+use Rattle.probe_text.proofs.Halving.{Halving, even, uneven, done}
+use Rattle.probe_text.proofs.float.halve.Goals as goal
+
+pub loop-turns-init : goal.loop-turns-init
+loop-turns-init c = record { room = omega arith; whole = mul-one _; state = inr refl }
+
+pub overflow_add-times : goal.overflow_add-times
+overflow_add-times c = omega (arith, c.loop-turns.invariant.room)
+
+pub loop-turns-preserved : goal.loop-turns-preserved
+loop-turns-preserved c =
+    let x = c.args.x in
+    ⊎_elim
+    (λ a. subst (λ (k : ℕ). Halving x c.if-left-eq0.left k (c.loop-turns.turns - 1)) (sym a.2) (subst (λ (k : ℕ). Halving x k (c.loop-turns.times + 1) (c.loop-turns.turns - 1)) (sym a.1) (even c.loop-turns.invariant (omega arith) a.0.taken)))
+    (λ a. subst (λ (k : ℕ). Halving x c.if-left-eq0.left k (c.loop-turns.turns - 1)) (sym a.2) (subst (λ (k : ℕ). Halving x k c.loop-turns.times (c.loop-turns.turns - 1)) (sym a.1) (uneven c.loop-turns.invariant (omega arith) a.0.left)))
+    c.if-left-eq0.branch
+
+pub returns : goal.returns
+returns c =
+    let e : c.loop-turns.turns ≡ 0 = omega arith in
+    done c.requires (subst (Halving c.args.x c.loop-turns.left c.loop-turns.times) e c.loop-turns.invariant)

@@ -1,0 +1,10 @@
+-- `probe_text::fnv::after` meets its contract. The loop's invariant: what is left of the number, after the sum so far, gives the whole. Assumes nothing.
+use Rattle.std.proofs.Common.{◌≡◌, ℕ, suc, ◌+◌, ◌-◌, ◌/◌, ◌≤◌, sym, ap, ◌∙◌, arith, rules}
+use Rattle.probe_text.specs.Fnv.{byte_into, bytes_into}
+use Rattle.probe_text.proofs.fnv.after.Given as goal
+
+abbrev pub invariant-loop-i : goal.invariant-loop-i
+invariant-loop-i l = (l.i ≤ l.n) × (bytes_into l.s l.rest (l.n - l.i) ≡ bytes_into l.sum l.x l.n)
+
+abbrev pub decreases-loop-i : goal.decreases-loop-i
+decreases-loop-i l = l.n - l.i

@@ -1,0 +1,45 @@
+-- `tree::level::level` meets its contract. The loop's invariant: where level l and the next begin, and how many of the first l begin at the node or before it. Assumes nothing.
+use Rattle.std.proofs.Common.{◌≡◌, ℕ, ◌+◌, ◌-◌, ◌<◌, ◌≤◌, sym, ap, ◌∙◌, ⊎_elim, arith}
+use Rattle.tree.specs.Layout.{start_of}
+use Rattle.tree.specs.Level.{edge, level_in}
+use Rattle.tree.proofs.Levels.{edge_none, edge_one, edge_more, edge_in, edge_step, level_none, level_up, level_stay}
+use Rattle.tree.proofs.level.level.Goals as goal
+
+pub loop-l-init : goal.loop-l-init
+loop-l-init c = (omega arith, sym (edge_none _), sym (edge_one _), sym (level_none _ _), omega arith)
+
+pub start_from-after-requires : goal.start_from-after-requires
+start_from-after-requires c =
+    let t = c.args.tree.now in
+    let i = c.loop-l.invariant in
+    (
+      c.requires,
+      (
+        omega (arith, i.1, i.2, edge_step t c.requires c.loop-l.l),
+        (
+          omega (arith, i.2, edge_in t c.requires (c.loop-l.l + 1)),
+          i.2 ∙ edge_more t c.loop-l.l ∙ ap (start_of t) (sym i.1),
+        ),
+      ),
+    )
+
+pub loop-l-preserved : goal.loop-l-preserved
+loop-l-preserved c =
+    let t = c.args.tree.now in
+    let i = c.loop-l.invariant in
+    let n = c.loop-l.l in
+    (
+      omega arith,
+      i.2,
+      c.start_from-after.ensures ∙ ap (start_of t) i.2 ∙ sym (edge_more t (n + 1)),
+      ⊎_elim
+          (λ w. let h : edge t (n + 1) ≤ c.args.node = omega (arith, w.0.taken, i.2) in omega (arith, w.1, i.3, level_up t n c.args.node h))
+          (λ w. let h : c.args.node < edge t (n + 1) = omega (arith, w.0.left, i.2) in omega (arith, w.1, i.3, level_stay t n c.args.node h))
+          c.if-next-node.branch,
+      ⊎_elim (λ w. omega (arith, w.1, i.4)) (λ w. omega (arith, w.1, i.4)) c.if-next-node.branch,
+    )
+
+pub returns : goal.returns
+returns c =
+    let e : c.loop-l.l ≡ 100 = omega arith in
+    c.loop-l.invariant.3 ∙ ap (λ (j : ℕ). level_in c.args.tree.now j c.args.node) e
