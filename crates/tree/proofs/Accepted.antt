@@ -8,7 +8,7 @@ use Rattle.record.specs.Bytes.{le}
 use Rattle.record.specs.Node.{record_at, record_of, first_of, count_of, flags_of, eval_of, move_of}
 use Rattle.tree.specs.Blocks.{length_right, blocks_right, nodes_of, Blocked}
 use Rattle.tree.specs.Layout.{start_of, layout_right, Laid}
-use Rattle.tree.specs.Fields.{eval_right_lem, move_right, differ, apart, siblings_right, fields_ok, unused_right, fields_right}
+use Rattle.tree.specs.Fields.{eval_right, move_right, differ, apart, siblings_right, fields_ok, unused_right, fields_right}
 use Rattle.tree.specs.Level.{edge, level_of, levels_right}
 use Rattle.tree.specs.Refusal.{tree_refusal, handed_part}
 use Rattle.tree.proofs.Every.{two, four, every_at}
@@ -165,22 +165,22 @@ module _ (inf : ℤ) (maxPly : ℕ) (t : List ℕ) (ok : tree_refusal inf maxPly
   unfolding fields_right
   fields-ok k h = every_at (fields_ok inf maxPly t) (nodes_of t) k (two (all_below (fields_ok inf maxPly t) (nodes_of t)) (unused_right t) (accepted inf maxPly t ok).fields_right_lem).0 h
 
-  parts : (k : ℕ) → k < nodes_of t → (ltb (flags_of t k) 32 ≡ true) × (eval_right_lem inf maxPly (eval_of t k) ≡ true) × (move_right t k ≡ true) × (siblings_right t k ≡ true)
+  parts : (k : ℕ) → k < nodes_of t → (ltb (flags_of t k) 32 ≡ true) × (eval_right inf maxPly (eval_of t k) ≡ true) × (move_right t k ≡ true) × (siblings_right t k ≡ true)
   unfolding fields_ok
-  parts k h = four (ltb (flags_of t k) 32) (eval_right_lem inf maxPly (eval_of t k)) (move_right t k) (siblings_right t k) (fields-ok k h)
+  parts k h = four (ltb (flags_of t k) 32) (eval_right inf maxPly (eval_of t k)) (move_right t k) (siblings_right t k) (fields-ok k h)
 
   pub flags_below : (k : ℕ) → k < nodes_of t → flags_of t k < 32
   flags_below k h = ltb-true (flags_of t k) 32 (parts k h).0
 
-  pub eval_right_lem : (k : ℕ) → k < nodes_of t → eval_right_lem inf maxPly (eval_of t k) ≡ true
+  pub eval_right_lem : (k : ℕ) → k < nodes_of t → eval_right inf maxPly (eval_of t k) ≡ true
   eval_right_lem k h = (parts k h).1
 
   pub eval_over : (k : ℕ) → k < nodes_of t → lt_z (neg_ℤ (inf -ℤ pos maxPly)) (eval_of t k) ≡ true
-  unfolding eval_right_lem
+  unfolding eval_right
   eval_over k h = (two (lt_z (neg_ℤ (inf -ℤ pos maxPly)) (eval_of t k)) (lt_z (eval_of t k) (inf -ℤ pos maxPly)) (eval_right_lem k h)).0
 
   pub eval_under : (k : ℕ) → k < nodes_of t → lt_z (eval_of t k) (inf -ℤ pos maxPly) ≡ true
-  unfolding eval_right_lem
+  unfolding eval_right
   eval_under k h = (two (lt_z (neg_ℤ (inf -ℤ pos maxPly)) (eval_of t k)) (lt_z (eval_of t k) (inf -ℤ pos maxPly)) (eval_right_lem k h)).1
 
   pub move_root : move_of t 0 ≡ 0
