@@ -4,7 +4,7 @@ use borrow.Author.Rules.{rules}
 use native.Mathlib.Omega.{arith}
 use lib.IntN.{pos, nat_abs, ◌+ℤ◌, ◌*ℤ◌}
 use lib.Signed.{quot_z}
-use mir.Syntax.{w32}
+use mir.Syntax.{w16, w32}
 use mir.Val.{SFits, to_z}
 use mir.Facts.{to_z-of_z, to_z_pos, sfits_widen}
 use Rattle.history.specs.Gravity.{new_of, gravity_of}
