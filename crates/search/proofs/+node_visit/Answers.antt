@@ -76,7 +76,7 @@ deepen-returns-then-deepens t c =
     let e = c.inner.ensures in
     let en : c.inner.result.node ≡ here.node = ap (λ (x : Args). x.node) e in
     let ed : c.inner.result.depth ≡ here.depth - 2 = ap (λ (x : Args). x.depth) e in
-    λ k h. ap (λ (x : Loc). with x c.search_node-r.new.1.0 c.search_node-r.new.1.1.0) c.hinted.ensures
+    λ k h. ap (λ (x : Loc). with x c.search_node-r.new.words c.search_node-r.new.history) c.hinted.ensures
     ∙ deepen_yes (visit_f k tree set) tree set here loc words history (sym c.deepens.ensures ∙ c.if-deepens.true) _
     (c.search_node-r.ensures k (omega (arith, h)) ∙ ap (visit_f k tree set loc.state words history) e)
 
@@ -151,14 +151,14 @@ reduced-search_node-q-requires t c =
     let en : c.null-then-again.result.node ≡ child = ap (λ (x : Args). x.node) e in
     let ed : c.null-then-again.result.depth ≡ here.depth - 1 - 0 = ap (λ (x : Args). x.depth) e in
     let reach = subst (Reach tree) (sym e) (to_null tree here c.args.loc child i g 0) in
-    (omega (arith, c.decreases, g.above, g.in_tree, i.depth_most), (still_ready set tree _ _ _ _ c.requires.ready kept.1.0 kept.1.1.0, reach))
+    (omega (arith, c.decreases, g.above, g.in_tree, i.depth_most), (still_ready set tree _ _ _ _ c.requires.ready kept.words kept.history, reach))
 
 pub reduced-widened-requires : goal.reduced-widened-requires
 reduced-widened-requires t c =
     let first = c.search_node-r.auto in
     let again = c.search_node-q.auto in
-    let words = again.1.0 ∙ first.1.0 in
-    let history = again.1.1.0 ∙ first.1.1.0 in
+    let words = again.words ∙ first.words in
+    let history = again.history ∙ first.history in
     let set = c.args.set in
     let tree = c.args.tree.now in
     (omega (arith, c.decreases), (still_ready set tree _ _ _ _ c.requires.ready words history, (c.requires.inside, c.requires.kid)))
@@ -186,14 +186,14 @@ reduced-returns-then-again t c =
     (c.search_node-r.ensures k (omega (arith, h, g.above, g.in_tree, i.depth_most)) ∙ ap (visit_f k tree set loc.state words history) e)
     (sym c.again.ensures ∙ c.if-again.true) _
     (c.search_node-q.ensures k (omega (arith, h, g.above, g.in_tree, i.depth_most))
-    ∙ ap (visit_f k tree set c.search_node-r.result.state c.search_node-r.new.1.0 c.search_node-r.new.1.1.0) e2)
+    ∙ ap (visit_f k tree set c.search_node-r.result.state c.search_node-r.new.words c.search_node-r.new.history) e2)
 
 pub reduced-widened-requires-2 : goal.reduced-widened-requires-2
 reduced-widened-requires-2 t c =
     let kept = c.search_node-r.auto in
     let set = c.args.set in
     let tree = c.args.tree.now in
-    (omega (arith, c.decreases), (still_ready set tree _ _ _ _ c.requires.ready kept.1.0 kept.1.1.0, (c.requires.inside, c.requires.kid)))
+    (omega (arith, c.decreases), (still_ready set tree _ _ _ _ c.requires.ready kept.words kept.history, (c.requires.inside, c.requires.kid)))
 
 pub reduced-returns : goal.reduced-returns
 reduced-returns t c =
@@ -298,7 +298,7 @@ search_node-deepen-l-requires t c =
     let longer-same : Same longer c.args.a = same_after c.args.tree.now c.args.a longer c.extend-x.ensures in
     let longer-most : longer.depth ≤ c.args.a.depth + 1 = most_after c.args.tree.now c.args.a longer c.extend-x.ensures in
     let here-inside : Inside c.args.tree.now c.in-Moves.here = inside c.args.tree.now c.args.a longer _ c.extend-x.ensures
-    c.requires.reach c.if-depth-eq0.left stays in
+    c.requires.reach c.if-depth-eq0.false stays in
     let g = stays in
     let same = longer-same in
     (omega (arith, c.decreases, g.0, same.0, g.1.1.0, longer-most), (c.requires.ready, here-inside))
@@ -311,13 +311,13 @@ search_node-walk-w-requires t c =
     (sym c.in-Moves.is ∙ c.enter-e.ensures) in
     let longer-same : Same longer c.args.a = same_after c.args.tree.now c.args.a longer c.extend-x.ensures in
     let here-inside : Inside c.args.tree.now c.in-Moves.here = inside c.args.tree.now c.args.a longer _ c.extend-x.ensures
-    c.requires.reach c.if-depth-eq0.left stays in
+    c.requires.reach c.if-depth-eq0.false stays in
     let kept = c.deepen-l.auto in
     let g = stays in
     let same = longer-same in
     let set = c.args.set in
     let tree = c.args.tree.now in
-    (omega (arith, c.decreases, g.0, same.0), (still_ready set tree _ _ _ _ c.requires.ready kept.1.0 kept.1.1.0, here-inside))
+    (omega (arith, c.decreases, g.0, same.0), (still_ready set tree _ _ _ _ c.requires.ready kept.words kept.history, here-inside))
 
 pub search_node-finish-requires-clause-blocked : goal.search_node-finish-requires-clause-blocked
 search_node-finish-requires-clause-blocked t c =
@@ -333,7 +333,7 @@ search_node-finish-requires-clause-node_bound t c =
     c.poll-s.result longer _ _
     (sym c.in-Moves.is ∙ c.enter-e.ensures) in
     let here-inside : Inside c.args.tree.now c.in-Moves.here = inside c.args.tree.now c.args.a longer _ c.extend-x.ensures
-    c.requires.reach c.if-depth-eq0.left stays in
+    c.requires.reach c.if-depth-eq0.false stays in
     let i = here-inside in
     i.in_tree
 
@@ -344,7 +344,7 @@ search_node-finish-requires-clause-in_bounds t c =
     c.poll-s.result longer _ _
     (sym c.in-Moves.is ∙ c.enter-e.ensures) in
     let here-inside : Inside c.args.tree.now c.in-Moves.here = inside c.args.tree.now c.args.a longer _ c.extend-x.ensures
-    c.requires.reach c.if-depth-eq0.left stays in
+    c.requires.reach c.if-depth-eq0.false stays in
     let set = c.args.set in
     let tree = c.args.tree.now in
     let r = c.requires.ready in
@@ -352,7 +352,7 @@ search_node-finish-requires-clause-in_bounds t c =
     let low = level_low set tree r.accepted c.in-Moves.here.node in
     let kept = c.deepen-l.auto in
     let kept2 = c.walk-w.auto in
-    (omega (arith, kept.1.0, kept2.1.0, r.words_least), (i.depth_most, omega (arith, i.ply_most, low)))
+    (omega (arith, kept.words, kept2.words, r.words_least), (i.depth_most, omega (arith, i.ply_most, low)))
 
 pub search_node-returns-in-Answer : goal.search_node-returns-in-Answer
 search_node-returns-in-Answer t c =
@@ -371,12 +371,12 @@ search_node-returns-in-Moves t c =
     let g = stays in
     let same = longer-same in
     let most = longer-most in
-    λ k h. ap (λ x. beside x c.walk-w.new.1.1.0) c.finish.ensures
+    λ k h. ap (λ x. beside x c.walk-w.new.history) c.finish.ensures
     ∙ visit_moves k _ c.args.tree.now c.args.set c.args.st c.poll-s.result c.args.words.now c.args.history.now c.args.a
     h c.poll-s.ensures c.if-stop.false (longer) c.extend-x.ensures
     c.if-depth-eq0.false _ c.enter-e.ensures _ _ c.in-Moves.is
-    (with c.deepen-l.result c.deepen-l.new.1.0 c.deepen-l.new.1.1.0) (c.deepen-l.ensures (k - 1) (omega (arith, h, g.0, same.0, g.1.1.0, most)))
-    (with c.walk-w.result c.walk-w.new.1.0 c.walk-w.new.1.1.0) (c.walk-w.ensures (k - 1) (omega (arith, h, g.0, same.0)))
+    (with c.deepen-l.result c.deepen-l.new.words c.deepen-l.new.history) (c.deepen-l.ensures (k - 1) (omega (arith, h, g.0, same.0, g.1.1.0, most)))
+    (with c.walk-w.result c.walk-w.new.words c.walk-w.new.history) (c.walk-w.ensures (k - 1) (omega (arith, h, g.0, same.0)))
 
 pub turn-move_to-mv-requires : goal.turn-move_to-mv-requires
 turn-move_to-mv-requires t c =
@@ -436,7 +436,7 @@ turn-returns-then-i-eq0 t c =
     let e = c.full.ensures in
     let en : c.full.result.node ≡ child = ap (λ (x : Args). x.node) e in
     let ed : c.full.result.depth ≡ here.depth - 1 = ap (λ (x : Args). x.depth) e in
-    λ k h. ap (λ (x : Turn). with x c.search_node-r.new.1.0 c.search_node-r.new.1.1.0)
+    λ k h. ap (λ (x : Turn). with x c.search_node-r.new.words c.search_node-r.new.history)
     (c.judge.ensures ∙ ap₂ (λ (x : Loc) (y : ℕ). judge_of here x y c.search_node-r.result) c.first.ensures c.move_to-mv.ensures)
     ∙ turn_first (visit_f k tree set) tree set here child nth loc c.counted-l.result words history c.counted-l.ensures c.if-i-eq0.true _
     (c.search_node-r.ensures k (omega (arith, h, g.above, g.in_tree, i.depth_most)) ∙ ap (visit_f k tree set c.counted-l.result.state words history) e)
@@ -506,7 +506,7 @@ turn-returns t c =
     let loc = c.args.loc in
     let words = c.args.words.now in
     let history = c.args.history.now in
-    λ k h. ap (λ (x : Turn). with x c.reduced-r.new.1.0 c.reduced-r.new.1.1.0)
+    λ k h. ap (λ (x : Turn). with x c.reduced-r.new.words c.reduced-r.new.history)
     (c.judge-2.ensures ∙ ap (λ (y : ℕ). judge_of here c.counted-l.result y c.reduced-r.result) c.move_to-mv.ensures)
     ∙ turn_reduced (visit_f k tree set) tree set here child nth loc c.counted-l.result words history
     c.counted-l.ensures c.if-i-eq0.false (sym c.futile.ensures ∙ c.if-futile.false) _ c.reduction-d.ensures _ (c.reduced-r.ensures k h)
@@ -570,28 +570,22 @@ walk-cutoff-requires t c =
     let r = c.requires.ready in
     let i = c.requires.inside in
     let g = subst (Kid tree here.node) (sym c.child-c.ensures) (walk-kid c.loop-i.i (omega (arith, taken))) in
-    let history = kept.1.1.0 ∙ inv.1.1.0 ∙ r.history_length in
-    (
-      blocked c.args.set tree r.accepted,
-      (
-        i.in_tree,
-        (
-          g.in_tree,
-          (
-            λ j lt. (walk-kid j (omega (arith, lt, taken))).in_tree,
-            (omega (arith, kept.1.0, inv.1.0, r.words_least), (history, (i.side_most, (i.depth_most, r.hh_above)))),
-          ),
-        ),
-      ),
-    )
+    let history = kept.history ∙ inv.1.1.0 ∙ r.history_length in
+    record {
+      blocked = blocked c.args.set tree r.accepted;
+      node_bound = i.in_tree;
+      c_bound = g.in_tree;
+      by_index = λ j lt. (walk-kid j (omega (arith, lt, taken))).in_tree;
+      in_bounds = (omega (arith, kept.words, inv.1.0, r.words_least), (history, (i.side_most, (i.depth_most, r.hh_above))));
+    }
 
 pub walk-returns-then-done : goal.walk-returns-then-done
 walk-returns-then-done t c =
     let tree = c.args.tree.now in
     let set = c.args.set in
     let here = c.args.here in
-    let words = c.turn-t.new.1.0 in
-    let history = c.turn-t.new.1.1.0 in
+    let words = c.turn-t.new.words in
+    let history = c.turn-t.new.history in
     let taken = c.loop-i-test.true in
     λ k h. c.cutoff.ensures
     ∙ ap₂ (λ (x : ℕ) (y : Loc). cutoff_of tree set here c.hint_place-place.result x c.loop-i.i y words history) c.child-c.ensures c.goes_on-l.ensures
@@ -610,8 +604,8 @@ walk-loop-i-preserved t c =
     let here = c.args.here in
     let place = c.hint_place-place.result in
     let n = c.child_count-n.result in
-    let words = c.turn-t.new.1.0 in
-    let history = c.turn-t.new.1.1.0 in
+    let words = c.turn-t.new.words in
+    let history = c.turn-t.new.history in
     let taken = c.loop-i-test.true in
     (
       omega (arith, taken),

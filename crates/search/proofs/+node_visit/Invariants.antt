@@ -2,6 +2,7 @@
 use Rattle.std.proofs.Common.{◌≡◌, ℕ, ◌+◌, ◌-◌, ◌*◌, ◌≤◌, length}
 use Rattle.tree.specs.Blocks.{nodes_of}
 use Rattle.carry.specs.Carry.{with}
+use Rattle.visits.specs.Reach.{need}
 use Rattle.visits.specs.Search.{visit_f, walk_f}
 use Rattle.search.proofs.+node_visit.Given as goal
 
@@ -24,8 +25,8 @@ abbrev pub decreases-widened : goal.decreases-widened
 decreases-widened l = 8 * ((nodes_of l.tree.now - l.here.node) * 64)
 
 abbrev pub invariant-walk-loop-i : goal.invariant-walk-loop-i
-invariant-walk-loop-i l = (l.i ≤ l.n) × ((length l.words ≡ length l.initial.words) × ((length l.history ≡ length l.initial.history) × ((l.k : ℕ) → need l.tree l.here.node 0 ≤ l.k →
-    walk_f (visit_f l.k l.tree l.set) l.tree l.set l.here l.place (l.n - l.i) l.i l.l l.words l.history ≡ walk_f (visit_f l.k l.tree l.set) l.tree l.set l.here l.place l.n 0 l.initial.l l.initial.words l.initial.history)))
+invariant-walk-loop-i l = (l.i ≤ l.n) × ((length l.words ≡ length l.initial.words) × ((length l.history ≡ length l.initial.history) × ((j : ℕ) → need l.tree l.here.node 0 ≤ j →
+    walk_f (visit_f j l.tree l.set) l.tree l.set l.here l.place (l.n - l.i) l.i l.l l.words l.history ≡ walk_f (visit_f j l.tree l.set) l.tree l.set l.here l.place l.n 0 l.initial.l l.initial.words l.initial.history)))
 
 abbrev pub decreases-walk-loop-i : goal.decreases-walk-loop-i
 decreases-walk-loop-i l = l.n - l.i
