@@ -11,11 +11,7 @@ overflow_add-times c = omega (arith, c.loop-turns.invariant.room)
 
 pub loop-turns-preserved : goal.loop-turns-preserved
 loop-turns-preserved c =
-    let x = c.args.x in
-    ⊎_elim
-    (λ a. subst (λ (k : ℕ). Halving x c.if-left-eq0.left k (c.loop-turns.turns - 1)) (sym a.2) (subst (λ (k : ℕ). Halving x k (c.loop-turns.times + 1) (c.loop-turns.turns - 1)) (sym a.1) (even c.loop-turns.invariant (omega arith) a.0.taken)))
-    (λ a. subst (λ (k : ℕ). Halving x c.if-left-eq0.left k (c.loop-turns.turns - 1)) (sym a.2) (subst (λ (k : ℕ). Halving x k c.loop-turns.times (c.loop-turns.turns - 1)) (sym a.1) (uneven c.loop-turns.invariant (omega arith) a.0.left)))
-    c.if-left-eq0.branch
+    let e = c.if-left-eq0.branch in ?
 
 pub returns : goal.returns
 returns c =

@@ -8,6 +8,10 @@ use Rattle.probe_text.proofs.fnv.of_entries.Goals as goal
 pub offset_bounds-entries-i : goal.offset_bounds-entries-i
 offset_bounds-entries-i c = omega (arith, c.well_formed)
 
+pub loop-i-init : goal.loop-i-init
+unfolding sum_to
+loop-i-init c = (omega arith, refl)
+
 pub loop-i-preserved : goal.loop-i-preserved
 loop-i-preserved c =
     let f : SFits w16 (get_or c.args.entries.now c.loop-i.i (pos 0)) = search rules in

@@ -7,6 +7,10 @@ use Rattle.probe_text.proofs.fnv.of_words.Goals as goal
 pub offset_bounds-words-i : goal.offset_bounds-words-i
 offset_bounds-words-i c = omega (arith, c.well_formed)
 
+pub loop-i-init : goal.loop-i-init
+unfolding sum_to
+loop-i-init c = (omega arith, refl)
+
 pub loop-i-preserved : goal.loop-i-preserved
 loop-i-preserved c = (omega arith, sum_next _ 8 c.loop-i.i c.loop-i.invariant.1 refl c.after-s.ensures)
 
