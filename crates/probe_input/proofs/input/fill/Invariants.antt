@@ -7,7 +7,7 @@ use lib.ListN.{length, length-take, length-drop}
 use Rattle.probe_input.proofs.input.fill.Given as goal
 
 abbrev pub invariant-loop-done : goal.invariant-loop-done
-invariant-loop-done l = (l.done ≤ length l.initial.buf) × (length l.buf ≡ length l.initial.buf)
+invariant-loop-done g l = (l.done ≤ length l.initial.buf) × (length l.buf ≡ length l.initial.buf)
 
 abbrev pub decreases-loop-done : goal.decreases-loop-done
-decreases-loop-done l = length l.initial.buf - l.done
+decreases-loop-done g l = length l.initial.buf - l.done
