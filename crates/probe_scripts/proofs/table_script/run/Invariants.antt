@@ -7,7 +7,7 @@ use lib.ListN.{length}
 use Rattle.probe_scripts.proofs.table_script.run.Given as goal
 
 abbrev pub invariant-loop-i : goal.invariant-loop-i
-invariant-loop-i l = (l.count ≡ length l.steps / 24) × ((l.i ≤ l.count) × (length l.words ≡ length l.initial.words))
+invariant-loop-i g l = (l.count ≡ length l.steps / 24) × ((l.i ≤ l.count) × (length l.words ≡ length l.initial.words))
 
 abbrev pub decreases-loop-i : goal.decreases-loop-i
-decreases-loop-i l = l.count - l.i
+decreases-loop-i g l = l.count - l.i
