@@ -1,9 +1,7 @@
 -- `probe_input::input::fill` is safe and ends: each read that moves bytes leaves fewer, and the buffer keeps its length. Assumes nothing.
-use borrow.Author.Rules.{rules}
-use mathlib.Core.Path.{◌≡◌, refl}
+use mathlib.Core.Path.{◌≡◌}
 use Prim.Native.Nat.{◌-◌, ◌≤◌}
-use native.Mathlib.Omega.{arith}
-use lib.ListN.{length, length-take, length-drop}
+use lib.ListN.{length}
 use Rattle.probe_input.proofs.input.fill.Given as goal
 
 abbrev pub invariant-loop-done : goal.invariant-loop-done

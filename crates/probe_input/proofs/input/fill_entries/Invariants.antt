@@ -1,8 +1,6 @@
 -- `probe_input::input::fill_entries` is safe and ends: each part lies within the entries, and those left fall. Assumes nothing.
-use borrow.Author.Rules.{rules}
-use mathlib.Core.Path.{◌≡◌, refl}
+use mathlib.Core.Path.{◌≡◌}
 use Prim.Native.Nat.{◌-◌, ◌≤◌}
-use native.Mathlib.Omega.{arith}
 use lib.ListN.{length}
 use Rattle.probe_input.proofs.input.fill_entries.Given as goal
 
