@@ -1,6 +1,5 @@
 -- `probe_scripts::clock_script::run` is safe and ends: each step lies within the bytes, and the steps left fall. Assumes nothing.
 use Prim.Native.Nat.{◌-◌, ◌≤◌, ◌/◌}
-use native.Mathlib.Omega.{arith}
 use mathlib.Core.Path.{◌≡◌}
 use lib.ListN.{length}
 use Rattle.probe_scripts.proofs.clock_script.run.Given as goal

@@ -1,8 +1,6 @@
 -- `probe_scripts::table_script::run` is safe and ends: each step lies within the bytes, and the steps left fall. Assumes nothing.
-use borrow.Author.Rules.{rules}
 use mathlib.Core.Path.{◌≡◌}
 use Prim.Native.Nat.{◌-◌, ◌≤◌, ◌/◌}
-use native.Mathlib.Omega.{arith}
 use lib.ListN.{length}
 use Rattle.probe_scripts.proofs.table_script.run.Given as goal
 
