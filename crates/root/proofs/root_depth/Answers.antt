@@ -18,10 +18,11 @@ root_walk-w-requires-clause-side_bound c = c.requires.side_bound
 
 pub saved-requires : goal.saved-requires
 saved-requires c =
-    (
-      blocked c.args.set c.args.tree.now c.requires.ready.accepted,
-      (root_in c.args.set c.args.tree.now c.requires.ready.accepted, (omega (arith, c.root_walk-w.auto.words, c.requires.ready.words_least), c.requires.side_bound.1.1)),
-    )
+    record {
+      blocked = blocked c.args.set c.args.tree.now c.requires.ready.accepted;
+      tree_nonzero = root_in c.args.set c.args.tree.now c.requires.ready.accepted;
+      in_bounds = (omega (arith, c.root_walk-w.auto.words, c.requires.ready.words_least), c.requires.side_bound.1.1);
+    }
 
 pub returns : goal.returns
 returns c =
