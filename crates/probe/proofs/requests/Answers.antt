@@ -1,8 +1,6 @@
 -- `probe::requests` is safe and ends: the number left falls, and the buffers keep their lengths. Assumes nothing.
-use borrow.Author.Rules.{rules}
-use mathlib.Core.Path.{◌≡◌, refl}
+use mathlib.Core.Path.{refl}
 use native.Mathlib.Omega.{arith}
-use lib.ListN.{length}
 use Rattle.probe.proofs.requests.Goals as goal
 
 pub loop-left-init : goal.loop-left-init

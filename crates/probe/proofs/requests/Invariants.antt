@@ -1,7 +1,5 @@
 -- `probe::requests` is safe and ends: the number left falls, and the buffers keep their lengths. Assumes nothing.
-use borrow.Author.Rules.{rules}
-use mathlib.Core.Path.{◌≡◌, refl}
-use native.Mathlib.Omega.{arith}
+use mathlib.Core.Path.{◌≡◌}
 use lib.ListN.{length}
 use Rattle.probe.proofs.requests.Given as goal
 
