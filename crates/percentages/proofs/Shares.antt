@@ -1,4 +1,4 @@
--- The shares of a well_sized_lem table: their numbers are small enough for f64, and each share is exact. Assumes nothing.
+-- The shares of a well-sized table: their numbers are small enough for f64, and each share is exact. Assumes nothing.
 use mathlib.Core.Path.{◌≡◌, refl, sym, subst}
 use mathlib.Core.Bool.{true}
 use mathlib.Core.List.{List}

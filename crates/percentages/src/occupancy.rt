@@ -69,8 +69,8 @@ fn counted(words: &[u64]) -> Counts
 // The three percentages, each of them exact, since the table's size is a power of two.
 pub fn occupied(words: &[u64]) -> Occupancy
     requires { well_sized (length words.now) ≡ true }
-    ensures fact_1 { result ≡ occupancy_of words.now }
-    ensures fact_2 { Exactly words.now result }
+    ensures value { result ≡ occupancy_of words.now }
+    ensures exact { Exactly words.now result }
 {
     let c = counted(words);
     let n = (words.len() / 2) as u64;

@@ -19,7 +19,7 @@ abbrev pub node_at : List ℕ → ℕ → Node
 node_at t k =
     record { children = count_of t k; check = in_check t k; quiet = is_quiet t k; eval = eval_of t k; mv = move_of t k; hash = hash_of t k }
 
--- 01, Visits: "The six switches: table, delta, reverse futility, futility, late_move, inner deepening."
+-- 01, Visits: "The six switches: table, delta, reverse futility, futility, late-move, inner deepening."
 pub record Switches : Type 0 where
   pub table : Bool
   pub delta : Bool

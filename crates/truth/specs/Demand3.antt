@@ -18,7 +18,7 @@ pub record Tells3 (alpha beta score value : ℤ) : Type 0 where
   pub low : le_z score alpha ≡ true → le_z value score ≡ true
   pub high : le_z beta score ≡ true → le_z score value ≡ true
 
--- 01, Visits: "The six switches: table, delta, reverse futility, futility, late_move, inner deepening." All off.
+-- 01, Visits: "The six switches: table, delta, reverse futility, futility, late-move, inner deepening." All off.
 pub record Plain (set : Settings) : Type 0 where
   pub table : set.table ≡ false
   pub delta : set.delta ≡ false

@@ -25,7 +25,7 @@ occupied-o-requires c =
 pub returns-clause-occupied : goal.returns-clause-occupied
 returns-clause-occupied c =
     let right : table_right c.args.words.now ≡ true = sym c.table_right.ensures ∙ not-false _ c.if-not-table_right.false-raw in
-    occupancy_made c.args.words.now right _ c.occupied-o.ensures.fact_1
+    occupancy_made c.args.words.now right _ c.occupied-o.ensures.value
 
 pub returns-clause-exact : goal.returns-clause-exact
-returns-clause-exact c = λ z. c.occupied-o.ensures.fact_2
+returns-clause-exact c = λ z. c.occupied-o.ensures.exact

@@ -35,16 +35,16 @@ quotient-requires-3 c =
     let small : Room c.args.words.now c.counted-c.result = room c.args.words.now c.requires c.counted-c.result c.counted-c.ensures in
     omega (arith, small)
 
-pub returns-clause-fact_1 : goal.returns-clause-fact_1
+pub returns-clause-value : goal.returns-clause-value
 unfolding occupancy_of
-returns-clause-fact_1 c =
+returns-clause-value c =
     let e : ◌≡◌ (record { exact = c.quotient.result; lower = c.quotient-2.result; upper = c.quotient-3.result }) (occupancy_of c.args.words.now) =
     simp (c.quotient.ensures, c.quotient-2.ensures, c.quotient-3.ensures, c.counted-c.ensures) in
     e
 
-pub returns-clause-fact_2 : goal.returns-clause-fact_2
+pub returns-clause-exact : goal.returns-clause-exact
 unfolding occupancy_of
-returns-clause-fact_2 c =
+returns-clause-exact c =
     let e : ◌≡◌ (record { exact = c.quotient.result; lower = c.quotient-2.result; upper = c.quotient-3.result }) (occupancy_of c.args.words.now) =
     simp (c.quotient.ensures, c.quotient-2.ensures, c.quotient-3.ensures, c.counted-c.ensures) in
     exactly c.args.words.now c.requires _ e
