@@ -12,7 +12,7 @@ use capture_steps::{Capture, Entered, Here, Loc, Turn};
 use record::node;
 use state::{Out, Settings, State};
 
-#[cycle(captures_turn_walk)]
+#[cycle(capture_visit)]
 pub fn captures(tree: &[u8], words: &mut [u64], set: Settings, st: State, a: Capture) -> Out
     requires accepted_by { AcceptedBy set tree.now }
     requires reach { Reach tree.now a.node a.below a.ply }
@@ -31,7 +31,7 @@ pub fn captures(tree: &[u8], words: &mut [u64], set: Settings, st: State, a: Cap
 }
 
 // The children in their order, until one cuts.
-#[cycle(captures_turn_walk)]
+#[cycle(capture_visit)]
 fn walk(tree: &[u8], words: &mut [u64], set: Settings, here: Here, loc: Loc) -> Turn
     requires accepted_by { AcceptedBy set tree.now }
     requires reach { Reach tree.now here.node here.below here.ply }
@@ -58,7 +58,7 @@ fn walk(tree: &[u8], words: &mut [u64], set: Settings, here: Here, loc: Loc) -> 
 }
 
 // One child: a quiet one is passed over.
-#[cycle(captures_turn_walk)]
+#[cycle(capture_visit)]
 fn turn(tree: &[u8], words: &mut [u64], set: Settings, here: Here, loc: Loc, c: usize) -> Turn
     requires accepted_by { AcceptedBy set tree.now }
     requires node_bound { here.node < nodes_of tree.now }

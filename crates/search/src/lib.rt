@@ -65,7 +65,7 @@ fn capture_of(a: Args) -> Capture
 }
 
 // Poll; in check, depth + 1; depth 0: captures; draw, table, reverse futility; inner deepening; moves; end of game; store.
-#[cycle(deepen_reduced_search_node_turn_walk_widened)]
+#[cycle(node_visit)]
 pub fn search_node(
     tree: &[u8],
     words: &mut [u64],
@@ -104,7 +104,7 @@ pub fn search_node(
 }
 
 // Inner deepening: in a full window without a hint, a visit of the same node, two shallower, may leave a hint in the table.
-#[cycle(deepen_reduced_search_node_turn_walk_widened)]
+#[cycle(node_visit)]
 fn deepen(
     tree: &[u8],
     words: &mut [u64],
@@ -128,7 +128,7 @@ fn deepen(
 }
 
 // The moves in their order, until one cuts.
-#[cycle(deepen_reduced_search_node_turn_walk_widened)]
+#[cycle(node_visit)]
 fn walk(
     tree: &[u8],
     words: &mut [u64],
@@ -162,7 +162,7 @@ fn walk(
 }
 
 // One move: the first in the full window, a futile one skipped, the others in a null window first.
-#[cycle(deepen_reduced_search_node_turn_walk_widened)]
+#[cycle(node_visit)]
 fn turn(
     tree: &[u8],
     words: &mut [u64],
@@ -197,7 +197,7 @@ fn turn(
 }
 
 // A later move: a null window at the reduced depth, and again at the whole depth where that beat alpha.
-#[cycle(deepen_reduced_search_node_turn_walk_widened)]
+#[cycle(node_visit)]
 fn reduced(
     tree: &[u8],
     words: &mut [u64],
@@ -227,7 +227,7 @@ fn reduced(
 }
 
 // The full window, where the null window's score lies inside it.
-#[cycle(deepen_reduced_search_node_turn_walk_widened)]
+#[cycle(node_visit)]
 fn widened(
     tree: &[u8],
     words: &mut [u64],

@@ -32,6 +32,7 @@ module _ (t : List ℕ) (ok : Laid t) where
   -- where no node lies deeper than level 100, a node's level is the number of moves to it
   pub moves_level : (n c : ℕ) → edge t 101 ≡ nodes_of t → Below t n c → c < nodes_of t → level_of t c ≡ n
   moves_level zero zero d root h = level_root t 100
+  moves_level zero (suc _) d b h = elim b [ ]
   moves_level (suc n) c d (move k b p) h =
       let i = moves_level n k d b (parent_in k c p h) in
       omega (arith, level_child t k c p (omega arith))

@@ -12,5 +12,5 @@ pub returns : goal.returns
 returns c =
     let score-fits : SFits w16 c.search_root-r.result.score = search rules in
     let r = c.search_root-r.result in
-    ap (λ (z : ℤ). told r.refusal z r.mv r.nodes c.search_root-r.new.1.0 c.search_root-r.new.1.1.0) (to_z-of_z score-fits)
+    ap (λ (z : ℤ). told r.refusal z r.mv r.nodes c.search_root-r.new.words c.search_root-r.new.history) (to_z-of_z score-fits)
     ∙ (simp (c.settings.ensures, c.fresh.ensures, to_z-of_z c.ranges.end) at (ap told_of c.search_root-r.ensures))

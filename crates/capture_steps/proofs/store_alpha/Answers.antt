@@ -32,7 +32,7 @@ returns c =
     let alpha-fits : SFits w16 c.args.loc.alpha = search rules in
     let fd : SFits w8 c.depth_of.result = search rules in
     let kept = simp (to_z-of_z fd, to_z-of_z (alpha-fits)) at c.keep-after.ensures in
-    ap (λ (x : Out). over x c.keep-after.new.1.0) (simp (to_z-of_z alpha-fits) at c.answer-2.ensures)
+    ap (λ (x : Out). over x c.keep-after.new.words) (simp (to_z-of_z alpha-fits) at c.answer-2.ensures)
     ∙ store_move c.args.tree.now c.args.set c.args.here c.args.loc c.args.words.now c.if-loc-eq0.false _
     (kept
     ∙ ap₂ (λ (x : ℕ) (y : ℤ). keep_of c.args.set.table c.args.words.now c.args.loc.state x y c.args.loc.alpha c.args.loc.mv c.bound_of-bound.result) c.hash-hash.ensures c.depth_of.ensures

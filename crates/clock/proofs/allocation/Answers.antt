@@ -14,3 +14,7 @@ overflow_add-time c = record { fits = sum_fits (time_to _ c.requires) (omega ari
 
 pub nonzero_div-result : goal.nonzero_div-result
 nonzero_div-result c = some_remain _ c.requires
+
+pub returns : goal.returns
+unfolding allocation
+returns c = refl

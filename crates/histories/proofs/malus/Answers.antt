@@ -46,7 +46,7 @@ entry_given-requires c =
     let none : entry_rows c.args.history.now c.args.hh c.args.side ≡ 0 = sym (told) ∙ c.if-r-ne0.false in
     let taken : Accepted c.args.history.now c.args.hh c.args.side = accepted c.args.history.now c.args.hh c.args.side none in
     let t = taken in
-    (c.malus.auto.0 ∙ t.sized, t.side_most)
+    (c.malus.auto.history ∙ t.sized, t.side_most)
 
 pub returns : goal.returns
 returns c =
@@ -54,5 +54,5 @@ returns c =
     let told : c.entry_rows-r.result ≡ entry_rows c.args.history.now c.args.hh c.args.side = said (λ (z : ℤ). entry_rows c.args.history.now z c.args.side) c.ranges.hh.sfits c.entry_rows-r.ensures in
     let none : entry_rows c.args.history.now c.args.hh c.args.side ≡ 0 = sym (told) ∙ c.if-r-ne0.false in
     let most : c.unsigned-most.result ≡ nat_abs c.args.hh = simp (to_z-of_z c.ranges.hh) at c.unsigned-most.ensures in
-    let as-made : c.malus.new.0 ≡ made = (simp (to_z-of_z c.ranges.depth) at c.malus.ensures) ∙ ap (λ (h : ℕ). malus_of h c.args.history.now c.args.side c.args.mv c.args.depth) (most) in
+    let as-made : c.malus.new.history ≡ made = (simp (to_z-of_z c.ranges.depth) at c.malus.ensures) ∙ ap (λ (h : ℕ). malus_of h c.args.history.now c.args.side c.args.mv c.args.depth) (most) in
     change-made c.args.history.now c.args.hh c.args.side c.args.mv made _ none _ as-made c.entry_given.ensures

@@ -4,7 +4,7 @@ use borrow.Author.Rules.{rules}
 use native.Mathlib.Omega.{arith}
 use lib.IntN.{pos, nat_abs, ◌+ℤ◌, ◌*ℤ◌}
 use lib.Signed.{quot_z}
-use mir.Syntax.{w32}
+use mir.Syntax.{w16, w32}
 use mir.Val.{SFits, to_z}
 use mir.Facts.{to_z-of_z, to_z_pos, sfits_widen}
 use Rattle.history.specs.Gravity.{new_of, gravity_of}
@@ -88,5 +88,5 @@ returns c =
     let prod : SFits w32 (c.args.old *ℤ pos (nat_abs c.args.v)) = prod32 c.args.hh c.args.old c.args.v c.ranges.old c.ranges.hh.fits c.requires.1 in
     let quot : SFits w32 (quot_z (c.args.old *ℤ pos (nat_abs c.args.v)) (pos c.args.hh)) = quot32 c.args.hh c.args.old c.args.v c.ranges.old c.ranges.hh.fits c.requires.1 in
     let new : SFits w32 (new_of c.args.hh c.args.old c.args.v) = new32 c.args.hh c.args.old c.args.v c.ranges.old c.ranges.hh.fits c.requires.1 in
-    to_z-of_z (search rules)
+    to_z-of_z {w = w16} (search rules)
     ∙ (simp (to_z-of_z c.ranges.old, to_z-of_z c.ranges.v, to_z-of_z old32, to_z-of_z v32, abs_is, abs32, hh32, to_z-of_z sum, to_z-of_z prod, to_z-of_z quot, to_z-of_z new) at c.wrap.ensures)

@@ -12,14 +12,14 @@ use Rattle.history.proofs.malus.Goals as goal
 
 pub overflow_sub-v : goal.overflow_sub-v
 overflow_sub-v c =
-    let negated : pos 0 -ℤ to_z w16 (of_z w16 c.delta_score-v.result) ≡ neg_ℤ (pos (delta_of c.args.hh c.args.depth)) = ap (λ (z : ℤ). pos 0 -ℤ z) (to_z-of_z (search rules) ∙ (simp (to_z-of_z c.ranges.depth) at c.delta_score-v.ensures))
+    let negated : pos 0 -ℤ to_z w16 (of_z w16 c.delta_score-v.result) ≡ neg_ℤ (pos (delta_of c.args.hh c.args.depth)) = ap (λ (z : ℤ). pos 0 -ℤ z) (to_z-of_z {w = w16} (search rules) ∙ (simp (to_z-of_z c.ranges.depth) at c.delta_score-v.ensures))
     ∙ +ℤ_idl (neg_ℤ (pos (delta_of c.args.hh c.args.depth))) in
     let fits : SFits w16 (neg_ℤ (pos (delta_of c.args.hh c.args.depth))) = minus16 c.args.hh c.args.depth c.ranges.hh.fits in
     subst (SFits w16) (sym negated) fits
 
 pub update-requires : goal.update-requires
 update-requires c =
-    let negated : pos 0 -ℤ to_z w16 (of_z w16 c.delta_score-v.result) ≡ neg_ℤ (pos (delta_of c.args.hh c.args.depth)) = ap (λ (z : ℤ). pos 0 -ℤ z) (to_z-of_z (search rules) ∙ (simp (to_z-of_z c.ranges.depth) at c.delta_score-v.ensures))
+    let negated : pos 0 -ℤ to_z w16 (of_z w16 c.delta_score-v.result) ≡ neg_ℤ (pos (delta_of c.args.hh c.args.depth)) = ap (λ (z : ℤ). pos 0 -ℤ z) (to_z-of_z {w = w16} (search rules) ∙ (simp (to_z-of_z c.ranges.depth) at c.delta_score-v.ensures))
     ∙ +ℤ_idl (neg_ℤ (pos (delta_of c.args.hh c.args.depth))) in
     let fits : SFits w16 (neg_ℤ (pos (delta_of c.args.hh c.args.depth))) = minus16 c.args.hh c.args.depth c.ranges.hh.fits in
     let v-is : to_z w16 (of_z w16 (pos 0 -ℤ to_z w16 (of_z w16 c.delta_score-v.result))) ≡ neg_ℤ (pos (delta_of c.args.hh c.args.depth)) = ap (λ (z : ℤ). to_z w16 (of_z w16 z)) negated ∙ to_z-of_z fits in
@@ -28,7 +28,7 @@ update-requires c =
 pub returns : goal.returns
 unfolding malus_of
 returns c =
-    let negated : pos 0 -ℤ to_z w16 (of_z w16 c.delta_score-v.result) ≡ neg_ℤ (pos (delta_of c.args.hh c.args.depth)) = ap (λ (z : ℤ). pos 0 -ℤ z) (to_z-of_z (search rules) ∙ (simp (to_z-of_z c.ranges.depth) at c.delta_score-v.ensures))
+    let negated : pos 0 -ℤ to_z w16 (of_z w16 c.delta_score-v.result) ≡ neg_ℤ (pos (delta_of c.args.hh c.args.depth)) = ap (λ (z : ℤ). pos 0 -ℤ z) (to_z-of_z {w = w16} (search rules) ∙ (simp (to_z-of_z c.ranges.depth) at c.delta_score-v.ensures))
     ∙ +ℤ_idl (neg_ℤ (pos (delta_of c.args.hh c.args.depth))) in
     let fits : SFits w16 (neg_ℤ (pos (delta_of c.args.hh c.args.depth))) = minus16 c.args.hh c.args.depth c.ranges.hh.fits in
     let v-is : to_z w16 (of_z w16 (pos 0 -ℤ to_z w16 (of_z w16 c.delta_score-v.result))) ≡ neg_ℤ (pos (delta_of c.args.hh c.args.depth)) = ap (λ (z : ℤ). to_z w16 (of_z w16 z)) negated ∙ to_z-of_z fits in

@@ -10,6 +10,7 @@ use Rattle.record.specs.Node.{move_of}
 use Rattle.moves.specs.Order.{scan}
 use Rattle.moves.proofs.Ordered.{scan_over, scan_found, scan_passed, place_none, place_scan}
 use Rattle.moves.proofs.place_of.Goals as goal
+use Rattle.moves.proofs.place_of.Goals.{else-loop-i-test, then-loop-i-test+then-move_to-hint}
 
 pub returns-then-hint-eq0 : goal.returns-then-hint-eq0
 returns-then-hint-eq0 c = sym (place_none c.args.tree.now c.args.first c.args.count c.args.hint c.if-hint-eq0.true)
@@ -35,11 +36,10 @@ loop-i-preserved c =
 
 pub returns-then-i-count : goal.returns-then-i-count
 returns-then-i-count c =
-    ⊎_elim
-    (λ w. absurd (omega (arith, w.left)))
-    (λ w. sym (scan_found c.args.tree.now c.args.first c.args.hint c.args.count c.loop-i.i c.if-i-count.true (sym w.1.ensures ∙ w.2.taken))
-    ∙ c.loop-i.invariant.1 ∙ sym (place_scan c.args.tree.now c.args.first c.args.count c.args.hint c.if-hint-eq0.false))
-    c.loop-i-test.branch
+    elim c.loop-i-test.branch [
+      else-loop-i-test w ↦ absurd (omega arith)
+      | then-loop-i-test+then-move_to-hint w ↦ sym (scan_found c.args.tree.now c.args.first c.args.hint c.args.count c.loop-i.i c.if-i-count.true (sym w.move_to.ensures ∙ w.if-move_to-hint.true))
+      ∙ c.loop-i.invariant.1 ∙ sym (place_scan c.args.tree.now c.args.first c.args.count c.args.hint c.if-hint-eq0.false) ]
 
 pub returns-else-i-count : goal.returns-else-i-count
 returns-else-i-count c =

@@ -150,7 +150,7 @@ returns-in-30 c = ap row_of (sym c.in-30.is)
 pub returns-in_default : goal.returns-in_default
 unfolding reductions packed
 returns-in_default c =
-    let least : 31 ≤ c.args.depth = beyond 31 c.args.depth c.in_default.rest in
+    let least : 31 ≤ c.args.depth = beyond 31 c.args.depth c.in_default.in_default-own.rest in
     let most : c.args.depth ≤ 31 = c.requires in
     let e : 31 ≡ c.args.depth = omega arith in
     ap row_of e

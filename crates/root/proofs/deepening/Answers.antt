@@ -25,12 +25,12 @@ root_depth-d-requires-clause-ready c = still_ready c.args.set c.args.tree.now _ 
 
 pub root_depth-d-requires-clause-side_bound : goal.root_depth-d-requires-clause-side_bound
 root_depth-d-requires-clause-side_bound c =
-    (c.requires.side_bound.0, (omega (arith, c.loop-depth.invariant.0, c.requires.side_bound.1.0), omega (arith, c.loop-depth-test.true, c.requires.side_bound.1.1))),
+    (c.requires.side_bound.0, (omega (arith, c.loop-depth.invariant.0, c.requires.side_bound.1.0), omega (arith, c.loop-depth-test.true, c.requires.side_bound.1.1)))
 
 pub returns-then-over : goal.returns-then-over
 returns-then-over c =
     sym (depths_over (node_search c.args.tree.now c.args.set) c.args.tree.now c.args.set c.args.end c.loop-depth.depth c.loop-depth.d c.loop-depth.words c.loop-depth.history c.loop-depth-test.true
-    (sym c.mated.ensures ∙ c.if-mated.false) (with c.root_depth-d.result c.root_depth-d.new.1.0 c.root_depth-d.new.1.1.0) c.root_depth-d.ensures c.if-over.true)
+    (sym c.mated.ensures ∙ c.if-mated.false) (with c.root_depth-d.result c.root_depth-d.new.words c.root_depth-d.new.history) c.root_depth-d.ensures c.if-over.true)
     ∙ c.loop-depth.invariant.1.1.1
 
 pub overflow_add-depth : goal.overflow_add-depth
@@ -44,11 +44,11 @@ loop-depth-preserved c =
     (
       omega (arith, c.loop-depth.invariant.0),
       (
-        c.root_depth-d.auto.1.0 ∙ c.loop-depth.invariant.1.0,
+        c.root_depth-d.auto.words ∙ c.loop-depth.invariant.1.0,
         (
-          c.root_depth-d.auto.1.1.0 ∙ c.loop-depth.invariant.1.1.0,
+          c.root_depth-d.auto.history ∙ c.loop-depth.invariant.1.1.0,
           sym (depths_next (node_search c.args.tree.now c.args.set) c.args.tree.now c.args.set c.args.end c.loop-depth.depth c.loop-depth.d c.loop-depth.words c.loop-depth.history c.loop-depth-test.true
-              (sym c.mated.ensures ∙ c.if-mated.false) (with c.root_depth-d.result c.root_depth-d.new.1.0 c.root_depth-d.new.1.1.0) c.root_depth-d.ensures c.if-over.false)
+              (sym c.mated.ensures ∙ c.if-mated.false) (with c.root_depth-d.result c.root_depth-d.new.words c.root_depth-d.new.history) c.root_depth-d.ensures c.if-over.false)
               ∙ c.loop-depth.invariant.1.1.1,
         ),
       ),

@@ -18,13 +18,14 @@ root_walk-w-requires-clause-side_bound c = c.requires.side_bound
 
 pub saved-requires : goal.saved-requires
 saved-requires c =
-    (
-      blocked c.args.set c.args.tree.now c.requires.ready.accepted,
-      (root_in c.args.set c.args.tree.now c.requires.ready.accepted, (omega (arith, c.root_walk-w.auto.1.0, c.requires.ready.words_least), c.requires.side_bound.1.1)),
-    )
+    record {
+      blocked = blocked c.args.set c.args.tree.now c.requires.ready.accepted;
+      tree_nonzero = root_in c.args.set c.args.tree.now c.requires.ready.accepted;
+      in_bounds = (omega (arith, c.root_walk-w.auto.words, c.requires.ready.words_least), c.requires.side_bound.1.1);
+    }
 
 pub returns : goal.returns
 returns c =
-    ap (λ (x : Over Depths). beside x c.root_walk-w.new.1.1.0) c.saved.ensures
+    ap (λ (x : Over Depths). beside x c.root_walk-w.new.history) c.saved.ensures
     ∙ depth_is (node_search c.args.tree.now c.args.set) c.args.tree.now c.args.set c.args.depth c.args.d c.args.words.now c.args.history.now
-    (with c.root_walk-w.result c.root_walk-w.new.1.0 c.root_walk-w.new.1.1.0) c.root_walk-w.ensures
+    (with c.root_walk-w.result c.root_walk-w.new.words c.root_walk-w.new.history) c.root_walk-w.ensures

@@ -29,7 +29,7 @@ pub returns : goal.returns
 returns c =
     let reach : Reach c.args.tree.now c.down.result = subst (Reach c.args.tree.now) (sym c.down.ensures) (to_move c.args.set c.args.tree.now c.args.depth c.args.w c.args.c c.requires.side_bound.1.1 c.requires.kid) in
     let t = c.args.tree.now in
-    ap (λ (x : Walked). with x c.search_node-r.new.1.0 c.search_node-r.new.1.1.0) c.judge.ensures
+    ap (λ (x : Walked). with x c.search_node-r.new.words c.search_node-r.new.history) c.judge.ensures
     ∙ turn_is (node_search t c.args.set) t c.args.set c.args.depth c.args.w c.args.c c.args.words.now c.args.history.now
-    c.counted-st.result c.down.result (with c.search_node-r.result c.search_node-r.new.1.0 c.search_node-r.new.1.1.0)
+    c.counted-st.result c.down.result (with c.search_node-r.result c.search_node-r.new.words c.search_node-r.new.history)
     c.counted-st.ensures c.down.ensures (c.search_node-r.ensures (whole t) (enough t c.down.result reach))

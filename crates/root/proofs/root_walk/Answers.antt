@@ -53,22 +53,23 @@ child-c-requires-clause-i_bound c =
 pub root_turn-w-requires : goal.root_turn-w-requires
 root_turn-w-requires c =
     let child : Kid c.args.tree.now 0 (child_of c.args.tree.now 0 c.place_of-place.result c.loop-i.i) = root_kid c.args.set c.args.tree.now c.requires.ready.accepted c.args.best c.place_of-place.result c.child_count-n.result c.loop-i.i c.place_of-place.ensures c.child_count-n.ensures c.loop-i-test.true in
-    (
-      still_ready c.args.set c.args.tree.now _ _ _ _ c.requires.ready c.loop-i.invariant.1.0 c.loop-i.invariant.1.1.0,
-      (c.requires.side_bound, subst (Kid c.args.tree.now 0) (sym c.child-c.ensures) child),
-    )
+    record {
+      ready = still_ready c.args.set c.args.tree.now _ _ _ _ c.requires.ready c.loop-i.invariant.1.0 c.loop-i.invariant.1.1.0;
+      side_bound = c.requires.side_bound;
+      kid = subst (Kid c.args.tree.now 0) (sym c.child-c.ensures) child;
+    }
 
 pub loop-i-preserved : goal.loop-i-preserved
 loop-i-preserved c =
     (
       omega arith,
       (
-        c.root_turn-w.auto.1.0 ∙ c.loop-i.invariant.1.0,
+        c.root_turn-w.auto.words ∙ c.loop-i.invariant.1.0,
         (
-          c.root_turn-w.auto.1.1.0 ∙ c.loop-i.invariant.1.1.0,
+          c.root_turn-w.auto.history ∙ c.loop-i.invariant.1.1.0,
           sym (walk_next (node_search c.args.tree.now c.args.set) c.args.tree.now c.args.set c.args.depth c.place_of-place.result c.child_count-n.result c.loop-i.i c.loop-i.w c.loop-i.words c.loop-i.history
               c.polled-p.result c.loop-i-test.true c.polled-p.ensures c.if-stop.false
-              (with c.root_turn-w.result c.root_turn-w.new.1.0 c.root_turn-w.new.1.1.0)
+              (with c.root_turn-w.result c.root_turn-w.new.words c.root_turn-w.new.history)
               (c.root_turn-w.ensures ∙ ap (λ (x : ℕ). turn_f (node_search c.args.tree.now c.args.set) c.args.tree.now c.args.set c.args.depth c.polled-p.result x c.loop-i.words c.loop-i.history) c.child-c.ensures))
               ∙ c.loop-i.invariant.1.1.1,
         ),

@@ -18,6 +18,6 @@ pub returns : goal.returns
 unfolding kept_of
 returns c =
     let alpha-fits : SFits w16 c.args.w.alpha = search rules in
-    ap (λ (x : Depths). over x c.keep-after.new.1.0) (simp (to_z-of_z alpha-fits) at c.shifted.ensures)
+    ap (λ (x : Depths). over x c.keep-after.new.words) (simp (to_z-of_z alpha-fits) at c.shifted.ensures)
     ∙ ap (kept_by c.args.d c.args.depth c.args.w)
     (simp (c.hash-hash.ensures, to_z_pos w8 {n = c.args.depth} (omega (arith, c.requires.in_bounds.1)), to_z-of_z alpha-fits) at c.keep-after.ensures)

@@ -3,6 +3,7 @@ use Rattle.std.proofs.Common.{◌≡◌, ℕ, ◌-◌, ◌*◌, ◌^◌, ◌<◌
 use Rattle.table.specs.Table.{sized_to}
 use Rattle.table.proofs.Size.{size_met, size_not, size_next, size_bound}
 use Rattle.table.proofs.well_sized.Goals as goal
+use Rattle.table.proofs.well_sized.Goals.{then-words-size, else-words-size}
 
 pub loop-k-init : goal.loop-k-init
 unfolding sized_to
@@ -11,7 +12,7 @@ loop-k-init c = (omega arith, (refl, refl))
 pub overflow_mul-size : goal.overflow_mul-size
 overflow_mul-size c =
     let t : c.loop-k.k < 17 = omega arith in
-    omega (arith, size_bound c.args.words c.loop-k.k c.loop-k.size c.loop-k.type_inv c.loop-k.invariant.1.0 c.loop-k.invariant.1.1 t)
+    omega (arith, size_bound c.args.words c.loop-k.k c.loop-k.size c.loop-k.ok c.loop-k.invariant.1.0 c.loop-k.invariant.1.1 t)
 
 pub loop-k-preserved : goal.loop-k-preserved
 loop-k-preserved c =
@@ -19,11 +20,10 @@ loop-k-preserved c =
     (
       omega arith,
       (
-        size_next w c.loop-k.k c.loop-k.size c.loop-k.type_inv c.loop-k.invariant.1.0 c.loop-k.invariant.1.1,
-        ⊎_elim
-            (λ a. a.1 ∙ size_met w c.loop-k.k c.loop-k.size c.loop-k.type_inv c.loop-k.invariant.1.0 c.loop-k.invariant.1.1 a.0.taken)
-            (λ a. a.1 ∙ size_not w c.loop-k.k c.loop-k.size c.loop-k.type_inv c.loop-k.invariant.1.0 c.loop-k.invariant.1.1 a.0.left)
-            c.if-words-size.branch,
+        size_next w c.loop-k.k c.loop-k.size c.loop-k.ok c.loop-k.invariant.1.0 c.loop-k.invariant.1.1,
+        elim c.if-words-size.branch [
+          then-words-size a ↦ a.ok-is ∙ size_met w c.loop-k.k c.loop-k.size c.loop-k.ok c.loop-k.invariant.1.0 c.loop-k.invariant.1.1 a.if-words-size.true
+          | else-words-size a ↦ a.ok-is ∙ size_not w c.loop-k.k c.loop-k.size c.loop-k.ok c.loop-k.invariant.1.0 c.loop-k.invariant.1.1 a.if-words-size.false ],
       ),
     )
 

@@ -13,4 +13,4 @@ returns-then-not-table_right c =
 pub returns : goal.returns
 returns c =
     table-made c.args.words.now (sym c.table_right.ensures ∙ not-false _ c.if-not-table_right.false-raw) c.args.stats (clear_of c.args.words.now)
-    (table_of c.clear.new.0 c.clear.result) _ c.clear.ensures c.stats_given.ensures
+    (table_of c.clear.new.words c.clear.result) _ c.clear.ensures c.stats_given.ensures

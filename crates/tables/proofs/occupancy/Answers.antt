@@ -16,7 +16,7 @@ returns-then-not-table_right-clause-occupied c =
 pub returns-then-not-table_right-clause-exact : goal.returns-then-not-table_right-clause-exact
 returns-then-not-table_right-clause-exact c =
     let refused : c.occupancy_refused.result.refusal ≡ 8 = ap (λ (x : OccupancyResult). x.refusal) c.occupancy_refused.ensures in
-    λ z. absurd (omega (arith, refused, z)),
+    λ z. absurd (omega (arith, refused, z))
 
 pub occupied-o-requires : goal.occupied-o-requires
 occupied-o-requires c =

@@ -22,5 +22,5 @@ pub returns : goal.returns
 returns c =
     let right : table_right c.args.words.now ≡ true = sym c.table_right.ensures ∙ not-false _ c.if-not-table_right.false-raw in
     let made : Table = store_of c.args.words.now c.args.stats c.args.hash c.args.depth c.args.score c.args.mv c.args.bound in
-    table-made c.args.words.now right c.args.stats made (table_of c.store.new.0 c.store.result) _
+    table-made c.args.words.now right c.args.stats made (table_of c.store.new.words c.store.result) _
     (simp (to_z-of_z c.ranges.depth, to_z-of_z c.ranges.score) at c.store.ensures) c.stats_given.ensures

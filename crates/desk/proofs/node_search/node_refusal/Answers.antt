@@ -27,7 +27,7 @@ pub returns-then-not-history_right : goal.returns-then-not-history_right
 returns-then-not-history_right c =
     let hh-fits : SFits w16 c.args.set.hh_max = search rules in
     let said : c.history_right.result ≡ history_right c.args.set.hh_max c.args.history.now = simp (to_z-of_z (hh-fits)) at c.history_right.ensures in
-    node_history c.args.tree.now c.args.words.now c.args.history.now c.args.set c.args.at _ c.search_rows-r.ensures c.if-r-ne0.left
+    node_history c.args.tree.now c.args.words.now c.args.history.now c.args.set c.args.at _ c.search_rows-r.ensures c.if-r-ne0.false
     (sym said ∙ not-true _ c.if-not-history_right.true-raw)
 
 pub start_right-requires : goal.start_right-requires
@@ -39,14 +39,14 @@ pub returns-then-not-start_right : goal.returns-then-not-start_right
 returns-then-not-start_right c =
     let hh-fits : SFits w16 c.args.set.hh_max = search rules in
     let said : c.history_right.result ≡ history_right c.args.set.hh_max c.args.history.now = simp (to_z-of_z (hh-fits)) at c.history_right.ensures in
-    let told : history_right (⟪Start⟫).args.set.hh_max (⟪Start⟫).args.history.now ≡ true = sym (said) ∙ not-false _ c.if-not-history_right.false-raw in
-    node_start c.args.tree.now c.args.words.now c.args.history.now c.args.set c.args.at _ c.search_rows-r.ensures c.if-r-ne0.left told
+    let told : history_right c.args.set.hh_max c.args.history.now ≡ true = sym (said) ∙ not-false _ c.if-not-history_right.false-raw in
+    node_start c.args.tree.now c.args.words.now c.args.history.now c.args.set c.args.at _ c.search_rows-r.ensures c.if-r-ne0.false told
     (sym c.start_right.ensures ∙ not-true _ c.if-not-start_right.true-raw)
 
 pub returns : goal.returns
 returns c =
     let hh-fits : SFits w16 c.args.set.hh_max = search rules in
     let said : c.history_right.result ≡ history_right c.args.set.hh_max c.args.history.now = simp (to_z-of_z (hh-fits)) at c.history_right.ensures in
-    let told : history_right (⟪Start⟫).args.set.hh_max (⟪Start⟫).args.history.now ≡ true = sym (said) ∙ not-false _ c.if-not-history_right.false-raw in
-    node_none c.args.tree.now c.args.words.now c.args.history.now c.args.set c.args.at _ c.search_rows-r.ensures c.if-r-ne0.left told
+    let told : history_right c.args.set.hh_max c.args.history.now ≡ true = sym (said) ∙ not-false _ c.if-not-history_right.false-raw in
+    node_none c.args.tree.now c.args.words.now c.args.history.now c.args.set c.args.at _ c.search_rows-r.ensures c.if-r-ne0.false told
     (sym c.start_right.ensures ∙ not-false _ c.if-not-start_right.false-raw)

@@ -30,7 +30,7 @@ returns-then-r-ne0-clause-searched c =
           ∙ node_refused_lem c.args.tree.now c.args.words.now c.args.history.now c.args.set c.args.at c.args.stats _ c.node_refusal-r.ensures c.if-r-ne0.true
 
 pub returns-then-r-ne0-clause-truth : goal.returns-then-r-ne0-clause-truth
-returns-then-r-ne0-clause-truth c = λ p z st. absurd (c.if-r-ne0.true (sym (ap (λ (x : NodeResult). x.refusal) c.node_refused.ensures) ∙ z)),
+returns-then-r-ne0-clause-truth c = λ p z st. absurd (c.if-r-ne0.true (sym (ap (λ (x : NodeResult). x.refusal) c.node_refused.ensures) ∙ z))
 
 pub args_of-a-requires : goal.args_of-a-requires
 args_of-a-requires c =
@@ -40,10 +40,11 @@ args_of-a-requires c =
     let tests : (node_right c.args.tree.now c.args.at.node ≡ true) × (window_right c.args.set.inf c.args.at.alpha c.args.at.beta ≡ true) × (depth_right c.args.at.depth ≡ true) × (ply_right c.args.set.max_ply c.args.at.ply ≡ true) = start_tests c.args.tree.now c.args.set c.args.at (node_right_lem c.args.tree.now c.args.words.now c.args.history.now c.args.set c.args.at none).2 in
     let depth-zero : le_z (pos 0) c.args.at.depth ≡ true = depth_least c.args.at.depth tests.2 in
     let t = c.args.tree.now in
-    (
-      laid c.args.set t (search_accepted t c.args.words.now c.args.history.now c.args.set rows),
-      (set_side_most c.args.set settings, depth-zero),
-    )
+    record {
+      laid = laid c.args.set t (search_accepted t c.args.words.now c.args.history.now c.args.set rows);
+      side_bound = set_side_most c.args.set settings;
+      depth_value = depth-zero;
+    }
 
 pub search_node-o-requires-clause-ready : goal.search_node-o-requires-clause-ready
 search_node-o-requires-clause-ready c =
@@ -57,6 +58,7 @@ search_node-o-requires-clause-ready c =
 pub search_node-o-requires-clause-reach : goal.search_node-o-requires-clause-reach
 search_node-o-requires-clause-reach c =
     let none : node_refusal c.args.tree.now c.args.words.now c.args.history.now c.args.set c.args.at ≡ 0 = sym c.node_refusal-r.ensures ∙ c.if-r-ne0.false in
+    let rows : search_rows c.args.tree.now c.args.words.now c.args.history.now c.args.set ≡ 0 = (node_right_lem c.args.tree.now c.args.words.now c.args.history.now c.args.set c.args.at none).0 in
     let settings : settings_right c.args.set ≡ true = search_settings_right c.args.tree.now c.args.words.now c.args.history.now c.args.set rows in
     let tests : (node_right c.args.tree.now c.args.at.node ≡ true) × (window_right c.args.set.inf c.args.at.alpha c.args.at.beta ≡ true) × (depth_right c.args.at.depth ≡ true) × (ply_right c.args.set.max_ply c.args.at.ply ≡ true) = start_tests c.args.tree.now c.args.set c.args.at (node_right_lem c.args.tree.now c.args.words.now c.args.history.now c.args.set c.args.at none).2 in
     let depth-zero : le_z (pos 0) c.args.at.depth ≡ true = depth_least c.args.at.depth tests.2 in
@@ -66,7 +68,7 @@ search_node-o-requires-clause-reach c =
       depth_most = size_most c.args.at.depth 30 depth-zero (depth_most c.args.at.depth tests.2);
       ply_most = omega (arith, ply_most c.args.set.max_ply c.args.at.ply tests.3, set_max_ply_most c.args.set settings);
     } in
-    subst (Reach c.args.tree.now) (sym c.args_of-a.ensures) reach,
+    subst (Reach c.args.tree.now) (sym c.args_of-a.ensures) reach
 
 pub returns-clause-searched : goal.returns-clause-searched
 returns-clause-searched c =
@@ -88,10 +90,10 @@ returns-clause-searched c =
     let at = c.args.at in
     let x = c.args_of-a.result in
     let st = c.fresh_state-st.result in
-    let answer = with c.search_node-o.result c.search_node-o.new.1.0 c.search_node-o.new.1.1.0 in
+    let answer = with c.search_node-o.result c.search_node-o.new.words c.search_node-o.new.history in
     let here : Reach t x = subst (Reach t) (sym c.args_of-a.ensures) (reach) in
     let searched : answer ≡ node_search t set st words history x = c.search_node-o.ensures (whole t) (enough t x here) in
-    ap (λ (r : NodeResult). with r c.search_node-o.new.1.0 c.search_node-o.new.1.1.0) c.node_result.ensures
+    ap (λ (r : NodeResult). with r c.search_node-o.new.words c.search_node-o.new.history) c.node_result.ensures
           ∙ node_given_lem t words history set at c.args.stats none answer
           (searched ∙ ap₂ (λ (r : State) (y : Args). node_search t set r words history y) c.fresh_state-st.ensures c.args_of-a.ensures)
 
@@ -126,10 +128,10 @@ returns-clause-truth c =
     let at = c.args.at in
     let x = c.args_of-a.result in
     let st = c.fresh_state-st.result in
-    let answer = with c.search_node-o.result c.search_node-o.new.1.0 c.search_node-o.new.1.1.0 in
+    let answer = with c.search_node-o.result c.search_node-o.new.words c.search_node-o.new.history in
     let here : Reach t x = subst (Reach t) (sym c.args_of-a.ensures) (reach) in
     let searched : answer ≡ node_search t set st words history x = c.search_node-o.ensures (whole t) (enough t x here) in
     let ok = search_accepted t words history set (rows) in
     subst (NodeTold set t at) (sym c.node_result.ensures)
           (λ p z e. subst (λ (y : Args). Told set t y c.search_node-o.result) c.args_of-a.ensures (told set t ok x here st words history answer searched)
-          p in_range windowed e),
+          p in_range windowed e)

@@ -59,7 +59,7 @@ search_root-d-requires-clause-side_bound c =
     (
         set_side_most c.args.set (search_settings_right c.args.tree.now c.args.words.now c.args.history.now c.args.set rows),
         (rw start-size (size_least c.args.start start-from), rw end-size (size_most c.args.end 31 end-zero (end_most c.args.start c.args.end range))),
-      ),
+      )
 
 pub returns : goal.returns
 returns c =
@@ -68,8 +68,8 @@ returns c =
     let end-size : c.unsigned-2.result ≡ nat_abs c.args.end = simp (to_z-of_z c.ranges.end) at c.unsigned-2.ensures in
     let words = c.args.words.now in
     let history = c.args.history.now in
-    let d = with c.search_root-d.result c.search_root-d.new.1.0 c.search_root-d.new.1.1.0 in
-    ap (λ (x : RootResult). with x c.search_root-d.new.1.0 c.search_root-d.new.1.1.0) c.root_result.ensures
-    ∙ root_given_lem c.args.tree.now words history c.args.set c.args.start c.args.end c.args.stats (sym told ∙ c.if-r-ne0.left) d
+    let d = with c.search_root-d.result c.search_root-d.new.words c.search_root-d.new.history in
+    ap (λ (x : RootResult). with x c.search_root-d.new.words c.search_root-d.new.history) c.root_result.ensures
+    ∙ root_given_lem c.args.tree.now words history c.args.set c.args.start c.args.end c.args.stats (sym told ∙ c.if-r-ne0.false) d
     (c.search_root-d.ensures
     ∙ ap₂ (λ (x y : ℕ). root_search c.args.tree.now c.args.set c.args.stats x y words history) start-size end-size)

@@ -51,7 +51,7 @@ loop-i-preserved c =
         c.malus_at.ensures
             ∙ ap (λ (k : ℕ). malus_at t c.args.hh c.args.here k i c.loop-i.history) c.child-c.ensures
             ∙ ap (malus_at t c.args.hh c.args.here (child_of t c.args.here.node c.args.place i) i) c.loop-i.invariant.1.1
-            ∙ sym (malus-more t c.args.hh c.args.here c.args.place i c.bonus.new.0),
+            ∙ sym (malus-more t c.args.hh c.args.here c.args.place i c.bonus.new.history),
       ),
     )
 
@@ -60,6 +60,6 @@ unfolding credit_of
 returns c =
     let t = c.args.tree.now in
     c.loop-i.invariant.1.1
-    ∙ ap (λ (j : ℕ). malus_to t c.args.hh c.args.here c.args.place j c.bonus.new.0) (omega arith)
+    ∙ ap (λ (j : ℕ). malus_to t c.args.hh c.args.here c.args.place j c.bonus.new.history) (omega arith)
     ∙ ap (malus_to t c.args.hh c.args.here c.args.place c.args.n)
     (simp (to_z_pos w8 {n = c.args.here.depth} (omega (arith, c.requires.history_len.1.1.0))) at c.bonus.ensures)

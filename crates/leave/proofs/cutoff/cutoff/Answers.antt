@@ -28,16 +28,12 @@ history_max-hh-requires c = c.requires.in_bounds.1.1.1.1
 pub credit-requires : goal.credit-requires
 credit-requires c =
     let p = c.requires.in_bounds.1 in
-    (
-      c.requires.blocked,
-      (
-        c.requires.node_bound,
-        (
-          c.requires.by_index,
-          (p.0, (p.1.0, (p.1.1.0, rw c.history_max-hh.ensures (positive_abs c.args.set.hh_max p.1.1.1)))),
-        ),
-      ),
-    )
+    record {
+      blocked = c.requires.blocked;
+      node_bound = c.requires.node_bound;
+      by_index = c.requires.by_index;
+      history_len = (p.0, (p.1.0, (p.1.1.0, rw c.history_max-hh.ensures (positive_abs c.args.set.hh_max p.1.1.1))));
+    }
 
 pub returns-then-is_quiet : goal.returns-then-is_quiet
 unfolding credit_if
@@ -46,10 +42,10 @@ returns-then-is_quiet c =
     let best-fits : SFits w16 c.args.loc.best = search rules in
     let stored : Over State = keep_of c.args.set.table c.args.words.now c.args.loc.state (hash_of c.args.tree.now c.args.here.node) (pos c.args.here.depth)
     c.args.loc.best c.args.loc.mv Lower in
-    let kept : over c.keep-after.result c.keep-after.new.1.0 ≡ stored = simp (c.hash-hash.ensures, to_z_pos w8 {n = c.args.here.depth} (omega (arith, c.requires.in_bounds.1.1.1.0)), to_z-of_z (best-fits)) at c.keep-after.ensures in
+    let kept : over c.keep-after.result c.keep-after.new.words ≡ stored = simp (c.hash-hash.ensures, to_z_pos w8 {n = c.args.here.depth} (omega (arith, c.requires.in_bounds.1.1.1.0)), to_z-of_z (best-fits)) at c.keep-after.ensures in
     simp (to_z-of_z alpha-fits, to_z-of_z best-fits)
     (cut_left c.args.tree.now c.args.set c.args.here c.args.place c.args.c c.args.i c.args.loc c.args.words.now c.args.history.now
-    c.keep-after.result c.keep-after.new.1.0 c.credit.new.1.0
+    c.keep-after.result c.keep-after.new.words c.credit.new.history
     kept
     ((simp c.history_max-hh.ensures at c.credit.ensures) ∙ rw (sym c.is_quiet.ensures ∙ c.if-is_quiet.true)))
 
@@ -60,9 +56,9 @@ returns-else-is_quiet c =
     let best-fits : SFits w16 c.args.loc.best = search rules in
     let stored : Over State = keep_of c.args.set.table c.args.words.now c.args.loc.state (hash_of c.args.tree.now c.args.here.node) (pos c.args.here.depth)
     c.args.loc.best c.args.loc.mv Lower in
-    let kept : over c.keep-after.result c.keep-after.new.1.0 ≡ stored = simp (c.hash-hash.ensures, to_z_pos w8 {n = c.args.here.depth} (omega (arith, c.requires.in_bounds.1.1.1.0)), to_z-of_z (best-fits)) at c.keep-after.ensures in
+    let kept : over c.keep-after.result c.keep-after.new.words ≡ stored = simp (c.hash-hash.ensures, to_z_pos w8 {n = c.args.here.depth} (omega (arith, c.requires.in_bounds.1.1.1.0)), to_z-of_z (best-fits)) at c.keep-after.ensures in
     simp (to_z-of_z alpha-fits, to_z-of_z best-fits)
     (cut_left c.args.tree.now c.args.set c.args.here c.args.place c.args.c c.args.i c.args.loc c.args.words.now c.args.history.now
-    c.keep-after.result c.keep-after.new.1.0 c.args.history.now
+    c.keep-after.result c.keep-after.new.words c.args.history.now
     kept
     (rw (sym c.is_quiet.ensures ∙ c.if-is_quiet.false)))

@@ -8,6 +8,7 @@ use Rattle.percentages.specs.Occupancy.{counts_to}
 use Rattle.percentages.specs.declared.occupancy.Counts.{Counts}
 use Rattle.percentages.proofs.Count.{Below, counts_below, taken, skipped}
 use Rattle.percentages.proofs.occupancy.counted.Goals as goal
+use Rattle.percentages.proofs.occupancy.counted.Goals.{then-e-ne0, else-e-ne0}
 
 pub offset_bounds-words-k : goal.offset_bounds-words-k
 offset_bounds-words-k c = omega (arith, c.well_formed)
@@ -22,10 +23,9 @@ loop-k-preserved c =
     let w = c.args.words.now in
     (
       omega arith,
-      ⊎_elim
-          (λ a. a.2 ∙ a.1.ensures ∙ taken w c.loop-k.k c.loop-k.c c.entry_of-e.result c.loop-k.invariant.1 c.entry_of-e.ensures a.0.taken)
-          (λ a. a.1 ∙ skipped w c.loop-k.k c.loop-k.c c.entry_of-e.result c.loop-k.invariant.1 c.entry_of-e.ensures a.0.left)
-          c.if-e-ne0.branch,
+      elim c.if-e-ne0.branch [
+        then-e-ne0 a ↦ a.c-is ∙ a.add-c.ensures ∙ taken w c.loop-k.k c.loop-k.c c.entry_of-e.result c.loop-k.invariant.1 c.entry_of-e.ensures a.if-e-ne0.true
+        | else-e-ne0 a ↦ a.c-is ∙ skipped w c.loop-k.k c.loop-k.c c.entry_of-e.result c.loop-k.invariant.1 c.entry_of-e.ensures a.if-e-ne0.false ],
     )
 
 pub returns : goal.returns
@@ -33,3 +33,7 @@ returns c =
     let w = c.args.words.now in
     let e : c.loop-k.k ≡ length w / 2 = omega arith in
     c.loop-k.invariant.1 ∙ ap (counts_to w) e
+
+pub loop-k-init : goal.loop-k-init
+unfolding counts_to
+loop-k-init c = (omega arith, refl)

@@ -17,3 +17,7 @@ pub returns : goal.returns
 returns c =
     let e : c.loop-i.i ≡ length c.args.entries.now = omega arith in
     c.loop-i.invariant.1 ∙ ap (sum_to _ 2) e
+
+pub loop-i-init : goal.loop-i-init
+unfolding sum_to
+loop-i-init c = (omega arith, refl)

@@ -14,3 +14,7 @@ pub returns : goal.returns
 returns c =
     let e : c.loop-i.i ≡ length c.args.words.now = omega arith in
     c.loop-i.invariant.1 ∙ ap (sum_to _ 8) e
+
+pub loop-i-init : goal.loop-i-init
+unfolding sum_to
+loop-i-init c = (omega arith, refl)

@@ -11,3 +11,7 @@ pub returns : goal.returns
 returns c =
     let e : c.loop-i.i ≡ 127 = omega arith in
     c.loop-i.invariant.1 ∙ ap (check_to c.args.tree.now c.args.at) e
+
+pub loop-i-init : goal.loop-i-init
+unfolding check_to
+loop-i-init c = (omega arith, refl)

@@ -10,7 +10,7 @@ use Rattle.tree.proofs.Blocked.{length_least}
 use Rattle.tree.proofs.fields.fields_right.Given as goal
 
 abbrev pub invariant-loop-k : goal.invariant-loop-k
-invariant-loop-k l = (l.k ≤ l.n) × (all_below (fields_ok (to_z w16 l.inf) l.max_ply l.tree) l.k ≡ true)
+invariant-loop-k l = (l.k ≤ l.n) × (all_below (fields_ok l.inf l.max_ply l.tree) l.k ≡ true)
 
 abbrev pub decreases-loop-k : goal.decreases-loop-k
 decreases-loop-k l = l.n - l.k

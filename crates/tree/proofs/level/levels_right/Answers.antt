@@ -13,16 +13,12 @@ pub start_from-after-requires : goal.start_from-after-requires
 start_from-after-requires c =
     let t = c.args.tree.now in
     let i = c.loop-l.invariant in
-    (
-      c.requires,
-      (
-        omega (arith, i.1, i.2, edge_step t c.requires c.loop-l.l),
-        (
-          omega (arith, i.2, edge_in t c.requires (c.loop-l.l + 1)),
-          i.2 ∙ edge_more t c.loop-l.l ∙ ap (start_of t) (sym i.1),
-        ),
-      ),
-    )
+    record {
+      laid = c.requires;
+      from_le_to = omega (arith, i.1, i.2, edge_step t c.requires c.loop-l.l);
+      to_bound = omega (arith, i.2, edge_in t c.requires (c.loop-l.l + 1));
+      start_value = i.2 ∙ edge_more t c.loop-l.l ∙ ap (start_of t) (sym i.1);
+    }
 
 pub loop-l-preserved : goal.loop-l-preserved
 loop-l-preserved c =
