@@ -10,8 +10,8 @@ use Rattle.std.proofs.lemmas.List.{take-append-le}
 use Rattle.std.specs.Prelude.{Ok, Err, None, Some}
 use Rattle.std.specs.Io.{ReadsAtMost}
 use Rattle.std.specs.Io.KnownBytes.{Consumes, IsAtEnd, ReadConsumes}
-use Rattle.core.specs.declared.option.Option.{Option}
-use Rattle.core.specs.declared.result.Result.{Result}
+use Rattle.std.specs.declared.option.Option.{Option}
+use Rattle.std.specs.declared.result.Result.{Result}
 use Rattle.adjudicate.specs.declared.Step.TheVariants.{More, End, Failed}
 use Rattle.adjudicate.specs.Input.{step_of}
 

@@ -1,8 +1,8 @@
 -- What is taken for the tree. Assumes nothing.
 use Rattle.std.specs.Prelude.{ℕ, zero, suc, ◌<◌, min, List, length, take, Ok, Err}
 use Rattle.std.specs.Io.KnownBytes.{Consumes, IsAtEnd}
-use Rattle.core.specs.declared.option.Option.{Option}
-use Rattle.core.specs.declared.result.Result.{Result}
+use Rattle.std.specs.declared.option.Option.{Option}
+use Rattle.std.specs.declared.result.Result.{Result}
 use Rattle.io.specs.Counts.{IsPrefixLen}
 use Rattle.adjudicate.specs.declared.Step.{Step}
 use Rattle.adjudicate.specs.declared.Step.TheVariants.{More, End, Failed as StepFailed}

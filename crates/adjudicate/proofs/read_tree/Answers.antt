@@ -30,7 +30,8 @@ loop-done-preserved g c =
 
 pub returns-in-End-clause-first : goal.returns-in-End-clause-first
 returns-in-End-clause-first g c =
-    let s = step_ended c.read-got.result (g.R.Read.remaining c.loop-done.from) (g.R.Read.remaining c.read-got.new.self) c.read-got.new.buf _ (sym c.outcome.ensures ∙ c.in-End.is) (search rules) c.read-got.ensures.bytes in
-    (rw (take_before c.loop-done.buf c.read-got.new.buf _ c.loop-done.done (search rules))
-         (consumes_both (g.R.Read.remaining c.args.from.now) (g.R.Read.remaining c.loop-done.from) (g.R.Read.remaining c.read-got.new.self) _ _ c.loop-done.invariant.first s.0),
-     λ _. s.1)
+    let s = step_ended c.read-got.result (g.R.Read.remaining c.loop-done.from) (g.R.Read.remaining c.read-got.new.self) c.read-got.new.buf _ (sym c.outcome.ensures ∙ c.in-End.is) (search rules) c.read-got.ensures.bytes in (
+      rw (take_before c.loop-done.buf c.read-got.new.buf _ c.loop-done.done (search rules))
+          (consumes_both (g.R.Read.remaining c.args.from.now) (g.R.Read.remaining c.loop-done.from) (g.R.Read.remaining c.read-got.new.self) _ _ c.loop-done.invariant.first s.0),
+      λ _. s.1,
+    )
