@@ -145,7 +145,7 @@ fn program(width: usize) {
         .map(|_| {
             let start = Instant::now();
             let input = std::fs::File::open(path).unwrap();
-            let done = Command::new("target/bin/adjudicate").stdin(input).output().unwrap();
+            let done = Command::new("crates/adjudicate/out/adjudicate").stdin(input).output().unwrap();
             assert!(done.stdout.starts_with(b"score "));
             start.elapsed().as_secs_f64() * 1e3
         })

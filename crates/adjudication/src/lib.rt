@@ -1,4 +1,4 @@
-// Functions that C or Rust can link: `rt staticlib adjudication` writes target/staticlib/libadjudication.a.
+// Functions that C or Rust can link: `rt lib` here writes out/libadjudication.a.
 #![tactic(auto)]
 
 ghost use Rattle.std.specs.Prelude.{◌≡◌, ◌<◌};

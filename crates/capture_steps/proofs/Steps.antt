@@ -1,14 +1,13 @@
 -- The other steps of a capture visit, by their tests, at the values that the code has. Assumes nothing.
-use mathlib.Core.Path.{◌≡◌, refl, sym, ap, ap₂, ◌∙◌}
+use mathlib.Core.Path.{◌≡◌, sym, ap, ◌∙◌}
 use mathlib.Core.Bool.{Bool, true, false}
 use mathlib.Core.List.{List}
-use Prim.Native.Nat.{ℕ, ◌+◌, ◌≤◌, ◌<◌}
+use Prim.Native.Nat.{ℕ, ◌+◌, ◌≤◌}
 use native.Mathlib.Omega.{arith}
 use lib.IntN.{ℤ, pos}
 use lib.Signed.{lt_z, le_z}
 use borrow.Author.Tests.{eq-eqb, ne_eqb}
 use Rattle.score.specs.Wrap.{neg16}
-use Rattle.transposition.specs.declared.Bound.{Bound}
 use Rattle.transposition.specs.declared.Bound.TheVariants.{Lower}
 use Rattle.record.specs.Node.{eval_of, move_of, hash_of, is_quiet}
 use Rattle.state.specs.declared.Settings.{Settings}
@@ -24,10 +23,8 @@ use Rattle.capture_steps.specs.declared.Capture.{Capture}
 use Rattle.capture_steps.specs.declared.Here.{Here}
 use Rattle.capture_steps.specs.declared.Loc.{Loc}
 use Rattle.capture_steps.specs.declared.Pat.{Pat}
-use Rattle.capture_steps.specs.declared.Turn.{Turn}
-use Rattle.capture_steps.specs.declared.Entered.{Entered}
 use Rattle.capture_steps.specs.declared.Entered.TheVariants.{Answer, Moves}
-use Rattle.capture_steps.specs.Step.{depth_of, stand_pat, here_of, loc_of, cut_if, consulted, judge_seen, probe_of, patted_if, patted, stop_if, polled, enter_of, PlaceIn, noisy_if, noisy_at, unfinished, cut_with, score_if, raise_if, judge_of, bound_if, bound_of, kept_with, store_if, stored_of, finish_if}
+use Rattle.capture_steps.specs.Step.{depth_of, stand_pat, here_of, loc_of, cut_if, consulted, judge_seen, probe_of, patted_if, patted, stop_if, polled, enter_of, PlaceIn, noisy_if, noisy_at, unfinished, cut_with, score_if, raise_if, judge_of, bound_of, kept_with, store_if, stored_of}
 
 -- the table, where it cuts and where it does not
 module _ (set : Settings) (t words : List ℕ) (s : State) (a : Capture) (alpha : ℤ) (seen : Seen) (w : Consulted) (es : seen ≡ seen_of set.table words s (hash_of t a.node)) (ew : w ≡ consulted seen a alpha) where

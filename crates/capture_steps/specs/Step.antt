@@ -12,7 +12,7 @@ use Rattle.state.specs.declared.Seen.{Seen}
 use Rattle.state.specs.declared.Consulted.{Consulted}
 use Rattle.moves.specs.declared.Place.{Place}
 use Rattle.moves.specs.declared.Place.TheVariants.{At, Nowhere}
-use Rattle.state.specs.State.{Over, over, poll_of, count_node, answer_of, seen_of, keep_of}
+use Rattle.state.specs.State.{Over, over, poll_of, answer_of, seen_of, keep_of}
 use Rattle.state.specs.Consult.{consult_of}
 use Rattle.moves.specs.Order.{place_of}
 use Rattle.capture_steps.specs.declared.Capture.{Capture}

@@ -1,5 +1,5 @@
 -- Laws of the walk and of the visit, at the values that the code has; and where the children of a capture visit are. Assumes nothing.
-use mathlib.Core.Path.{◌≡◌, refl, sym, ap, ap₂, subst, ◌∙◌}
+use mathlib.Core.Path.{◌≡◌, refl, sym, ap, subst, ◌∙◌}
 use mathlib.Core.Bool.{Bool, true, false}
 use mathlib.Core.List.{List}
 use Prim.Native.Nat.{ℕ, zero, suc, ◌+◌, ◌-◌, ◌≤◌, ◌<◌}
@@ -27,7 +27,7 @@ use Rattle.capture_steps.specs.declared.Turn.{Turn}
 use Rattle.capture_steps.specs.declared.Entered.{Entered}
 use Rattle.capture_steps.specs.declared.Entered.TheVariants.{Answer, Moves}
 use Rattle.captures.specs.Reach.{Reach}
-use Rattle.capture_steps.specs.Step.{stand_pat, cut_if, consulted, patted_if, stop_if, enter_of, noisy_if, noisy_at, noisy_place, unfinished, down_of, judge_of, finish_of}
+use Rattle.capture_steps.specs.Step.{stand_pat, cut_if, consulted, patted_if, stop_if, enter_of, noisy_if, noisy_at, noisy_place, unfinished, down_of, finish_of}
 use Rattle.captures.specs.Captures.{Visit, judged, turn_if, turn_f, next_if, next_f, walk_f, walk_all, entered_f, captures_f}
 
 -- one child

@@ -7,7 +7,6 @@ use Rattle.clock.specs.declared.Clock.{Clock}
 use Rattle.clock.specs.declared.Ticked.{Ticked}
 use Rattle.clock.specs.declared.Ticked.TheVariants.{Went, Refused}
 use Rattle.clock.specs.declared.Allotted.{Allotted}
-use Rattle.clock.specs.declared.Allotted.TheVariants as Allotted
 use Rattle.clock.specs.Answers.{Answer, refused_when, stopped, told, told_poll, told_time}
 use Rattle.clock.specs.Refusals.{poll_refused, time_over}
 use Rattle.clock.specs.Ticks.{new_of, start_of, set_time_of, allocated_of, looks, time_up, look, poll_clock, poll_of}

@@ -4,7 +4,6 @@ use Rattle.clock.specs.declared.Clock.{Clock}
 use Rattle.clock.specs.declared.Ticked.{Ticked}
 use Rattle.clock.specs.declared.Ticked.TheVariants.{Went, Refused}
 use Rattle.clock.specs.declared.Allotted.{Allotted}
-use Rattle.clock.specs.declared.Allotted.TheVariants as Allotted
 
 -- the refusal number, 0 for none; the value: the allocated time, or 1 where a poll is stopped; the clock after the call
 pub record Answer : Type 0 where

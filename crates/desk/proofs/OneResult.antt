@@ -8,8 +8,6 @@ use Rattle.state.specs.declared.Settings.{Settings}
 use Rattle.carry.specs.Carry.{With, with}
 use Rattle.refusals.proofs.One.{one}
 use Rattle.desk.specs.declared.node_search.Start.{Start}
-use Rattle.results.specs.declared.NodeResult.{NodeResult}
-use Rattle.results.specs.declared.RootResult.{RootResult}
 use Rattle.desk.specs.NodeEntry.{node_entry}
 use Rattle.desk.specs.RootEntry.{root_entry}
 

@@ -1,7 +1,7 @@
 -- Delta: each number on the way to it fits 32 bits, what it is held to, and that it is at most a quarter of HH_MAX. Assumes nothing.
 use mathlib.Core.Path.{◌≡◌, refl, sym}
 use mathlib.Core.Bool.{not}
-use Prim.Native.Nat.{ℕ, ◌+◌, ◌*◌, ◌/◌, ◌<◌, ◌≤◌}
+use Prim.Native.Nat.{ℕ, ◌/◌, ◌<◌, ◌≤◌}
 use native.Mathlib.Nat.{mul-le-mul, min-eq_left, min-eq_right, le_of_lt}
 use native.Mathlib.Omega.{arith}
 use lib.Dec.{T, ltb→lt, nltb→le}

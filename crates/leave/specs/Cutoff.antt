@@ -1,6 +1,5 @@
 -- A cutoff: bonus and malus, and the store. Assumes nothing.
 use Rattle.std.specs.Prelude.{Bool, true, false, not, ◌&&◌, List, ℕ, zero, suc, eqb, ℤ, pos, nat_abs}
-use Rattle.transposition.specs.declared.Bound.{Bound}
 use Rattle.transposition.specs.declared.Bound.TheVariants.{Lower}
 use Rattle.history.specs.Entries.{bonus_of, malus_of}
 use Rattle.record.specs.Node.{move_of, hash_of, is_quiet}

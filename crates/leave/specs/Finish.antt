@@ -1,5 +1,5 @@
 -- The end of a visit: the cutoff's score, the end of the game, or alpha, with the best score stored. Assumes nothing.
-use Rattle.std.specs.Prelude.{Bool, true, false, List, ℕ, ◌+◌, eqb, ℤ, pos}
+use Rattle.std.specs.Prelude.{Bool, true, false, List, ℕ, eqb, ℤ, pos}
 use Rattle.std.specs.Int.Signed.{lt_z}
 use Rattle.score.specs.Wrap.{neg16, add16}
 use Rattle.transposition.specs.declared.Bound.{Bound}

@@ -1,5 +1,5 @@
 -- What an answer says tells the answer: two rates that say the same are the same. Assumes nothing.
-use mathlib.Core.Path.{◌≡◌, refl, sym, ap}
+use mathlib.Core.Path.{◌≡◌, refl, ap}
 use mathlib.Core.Bool.{true≢false, false≢true}
 use native.Mathlib.Omega.{arith}
 use Rattle.percentages.specs.Rate.{Said, said}

@@ -12,7 +12,7 @@ fn lent(line: &mut [u8; 512], at: usize, s: Stats, words: &[u64], history: &[i16
     text::hex_field(line, n, b" history ", fnv::of_entries(history))
 }
 
-fn root_line(r: RootResult, words: &[u64], history: &[i16]) -> bool {
+fn root_line(rt: &impl Print, r: RootResult, words: &[u64], history: &[i16]) -> bool {
     let mut line = [0u8; 512];
     let stats = r.stats;
     let mut n = text::field(&mut line, 0, b"root ", r.refusal as u64);
@@ -22,17 +22,23 @@ fn root_line(r: RootResult, words: &[u64], history: &[i16]) -> bool {
     n = text::field(&mut line, n, b" nodes ", r.nodes);
     n = text::flag_field(&mut line, n, b" stopped ", r.stopped);
     n = lent(&mut line, n, stats, words, history);
-    text::write(&mut line, n)
+    text::write(rt, &mut line, n)
 }
 
-pub fn root(h: Header, tree: &[u8], words: &mut [u64], history: &mut [i16]) -> bool {
+pub fn root(
+    rt: &impl Print,
+    h: Header,
+    tree: &[u8],
+    words: &mut [u64],
+    history: &mut [i16],
+) -> bool {
     let set = h.set;
     let stats = h.stats;
     let r = root_search::search_root(tree, words, history, set, stats, h.start, h.end);
-    root_line(r, words, history)
+    root_line(rt, r, words, history)
 }
 
-fn node_line(r: NodeResult, words: &[u64], history: &[i16]) -> bool {
+fn node_line(rt: &impl Print, r: NodeResult, words: &[u64], history: &[i16]) -> bool {
     let mut line = [0u8; 512];
     let stats = r.stats;
     let mut n = text::field(&mut line, 0, b"node ", r.refusal as u64);
@@ -40,23 +46,29 @@ fn node_line(r: NodeResult, words: &[u64], history: &[i16]) -> bool {
     n = text::field(&mut line, n, b" nodes ", r.nodes);
     n = text::flag_field(&mut line, n, b" stopped ", r.stopped);
     n = lent(&mut line, n, stats, words, history);
-    text::write(&mut line, n)
+    text::write(rt, &mut line, n)
 }
 
-pub fn node(h: Header, tree: &[u8], words: &mut [u64], history: &mut [i16]) -> bool {
+pub fn node(
+    rt: &impl Print,
+    h: Header,
+    tree: &[u8],
+    words: &mut [u64],
+    history: &mut [i16],
+) -> bool {
     let set = h.set;
     let stats = h.stats;
     let at = h.at;
     let r = node_search::search_node(tree, words, history, set, stats, at);
-    node_line(r, words, history)
+    node_line(rt, r, words, history)
 }
 
-pub fn tree(h: Header, tree: &[u8]) -> bool {
+pub fn tree(rt: &impl Print, h: Header, tree: &[u8]) -> bool {
     let set = h.set;
     let r = trees::check_tree(tree, set.inf, set.max_ply);
     let mut line = [0u8; 512];
     let n = text::field(&mut line, 0, b"tree ", r as u64);
-    text::write(&mut line, n)
+    text::write(rt, &mut line, n)
 }
 
 // The bytes of a record as hex digits; nothing for the empty part.
@@ -73,7 +85,7 @@ fn record_bytes(line: &mut [u8; 512], at: usize, record: &[u8]) -> usize {
     n
 }
 
-pub fn record(h: Header, tree: &[u8]) -> bool {
+pub fn record(rt: &impl Print, h: Header, tree: &[u8]) -> bool {
     let set = h.set;
     let at = h.at;
     let r = trees::record_refusal(tree, set.inf, set.max_ply, at.node);
@@ -84,5 +96,5 @@ pub fn record(h: Header, tree: &[u8]) -> bool {
         n,
         trees::record(tree, set.inf, set.max_ply, at.node),
     );
-    text::write(&mut line, n)
+    text::write(rt, &mut line, n)
 }

@@ -2,8 +2,8 @@
 ghost use Rattle.std.specs.Prelude.{◌≡◌, ◌+◌, ◌≤◌, min, length};
 ghost use Rattle.probe_input.specs.Sent.{words_from, entries_from};
 
-use libc::STDIN_FILENO;
 use record::bytes;
+use std::io::{Input, Read};
 
 // Whether the table's words and the history's entries are sent; else they are all zero.
 #[derive(Clone, Copy)]
@@ -29,28 +29,31 @@ fn ended(done: usize) -> Filled {
     Filled::Cut
 }
 
+// Says on standard error why a read failed.
+fn failed(rt: &impl Eprint, e: std::io::Error) -> Filled {
+    let _ = eprintln!(rt; "standard input: {e}");
+    Filled::Failed
+}
+
 // Reads until buf is full. A read that fails is not taken for the end of the input.
-pub fn fill(buf: &mut [u8]) -> Filled {
+pub fn fill(rt: &(impl Input + Eprint), buf: &mut [u8]) -> Filled {
+    let mut input = rt.reader();
     let mut done = 0;
     while done < buf.len() {
-        let got = libc::read(STDIN_FILENO, &mut buf[done..]);
-        if got < 0 {
-            return Filled::Failed;
+        match input.read(&mut buf[done..]) {
+            Ok(0) => return ended(done),
+            Ok(more) => done += more,
+            Err(e) => return failed(rt, e),
         }
-        let more = io::count(got, &buf[done..]);
-        if more == 0 {
-            return ended(done);
-        }
-        done += more;
     }
     Filled::Whole
 }
 
 // Reads the first n bytes of buf.
-fn fill_start(buf: &mut [u8], n: usize) -> Filled
+fn fill_start(rt: &(impl Input + Eprint), buf: &mut [u8], n: usize) -> Filled
     requires { n ≤ length buf.old }
 {
-    fill(&mut buf[..n])
+    fill(rt, &mut buf[..n])
 }
 
 fn least(a: usize, b: usize) -> usize
@@ -72,22 +75,22 @@ fn decode_words(chunk: &[u8; 4096], n: usize, words: &mut [u64], at: usize)
 }
 
 // The next n words, from `at` on.
-fn next_words(words: &mut [u64], at: usize, n: usize) -> Filled
+fn next_words(rt: &(impl Input + Eprint), words: &mut [u64], at: usize, n: usize) -> Filled
     requires { (n ≤ 512) × (at + n ≤ length words.old) }
 {
     let mut chunk = io::buffer();
-    let got = fill_start(&mut chunk, 8 * n);
+    let got = fill_start(rt, &mut chunk, 8 * n);
     if whole(got) {
         decode_words(&chunk, n, words, at);
     }
     got
 }
 
-fn fill_words(words: &mut [u64]) -> Filled {
+fn fill_words(rt: &(impl Input + Eprint), words: &mut [u64]) -> Filled {
     let mut at = 0;
     while at < words.len() {
         let n = least(words.len() - at, 512);
-        let got = next_words(words, at, n);
+        let got = next_words(rt, words, at, n);
         if !whole(got) {
             return got;
         }
@@ -109,22 +112,22 @@ fn decode_entries(chunk: &[u8; 4096], n: usize, entries: &mut [i16], at: usize)
 }
 
 // The next n entries, from `at` on.
-fn next_entries(entries: &mut [i16], at: usize, n: usize) -> Filled
+fn next_entries(rt: &(impl Input + Eprint), entries: &mut [i16], at: usize, n: usize) -> Filled
     requires { (n ≤ 2048) × (at + n ≤ length entries.old) }
 {
     let mut chunk = io::buffer();
-    let got = fill_start(&mut chunk, 2 * n);
+    let got = fill_start(rt, &mut chunk, 2 * n);
     if whole(got) {
         decode_entries(&chunk, n, entries, at);
     }
     got
 }
 
-fn fill_entries(entries: &mut [i16]) -> Filled {
+fn fill_entries(rt: &(impl Input + Eprint), entries: &mut [i16]) -> Filled {
     let mut at = 0;
     while at < entries.len() {
         let n = least(entries.len() - at, 2048);
-        let got = next_entries(entries, at, n);
+        let got = next_entries(rt, entries, at, n);
         if !whole(got) {
             return got;
         }
@@ -143,18 +146,18 @@ fn whole(got: Filled) -> bool {
 }
 
 // The table's words, sent or all zero.
-fn words_of(sent: bool, words: &mut [u64]) -> Filled {
+fn words_of(rt: &(impl Input + Eprint), sent: bool, words: &mut [u64]) -> Filled {
     if sent {
-        return fill_words(words);
+        return fill_words(rt, words);
     }
     table::clear(words);
     Filled::Whole
 }
 
 // The history's entries, sent or all zero.
-fn entries_of(sent: bool, entries: &mut [i16]) -> Filled {
+fn entries_of(rt: &(impl Input + Eprint), sent: bool, entries: &mut [i16]) -> Filled {
     if sent {
-        return fill_entries(entries);
+        return fill_entries(rt, entries);
     }
     history::clear(entries);
     Filled::Whole
@@ -162,23 +165,24 @@ fn entries_of(sent: bool, entries: &mut [i16]) -> Filled {
 
 // A request's body: tree, table, history, steps.
 pub fn body(
+    rt: &(impl Input + Eprint),
     sent: Sent,
     tree: &mut [u8],
     words: &mut [u64],
     entries: &mut [i16],
     steps: &mut [u8],
 ) -> Filled {
-    let t = fill(tree);
+    let t = fill(rt, tree);
     if !whole(t) {
         return t;
     }
-    let w = words_of(sent.words, words);
+    let w = words_of(rt, sent.words, words);
     if !whole(w) {
         return w;
     }
-    let e = entries_of(sent.entries, entries);
+    let e = entries_of(rt, sent.entries, entries);
     if !whole(e) {
         return e;
     }
-    fill(steps)
+    fill(rt, steps)
 }

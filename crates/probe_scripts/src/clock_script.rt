@@ -75,7 +75,7 @@ fn one(clock: Clock, s: Step) -> Tick {
     }
 }
 
-fn clock_line(t: Tick) -> bool {
+fn clock_line(rt: &impl Print, t: Tick) -> bool {
     let mut line = [0u8; 512];
     let c = t.clock;
     let mut n = text::field(&mut line, 0, b"clock ", t.refusal as u64);
@@ -87,7 +87,7 @@ fn clock_line(t: Tick) -> bool {
     n = text::field(&mut line, n, b" last ", c.last);
     n = text::field(&mut line, n, b" start ", c.started);
     n = text::flag_field(&mut line, n, b" finished ", c.finished);
-    text::write(&mut line, n)
+    text::write(rt, &mut line, n)
 }
 
 // The clock that a script starts with: level 0 and time 0, never started.
@@ -103,16 +103,16 @@ fn first_clock() -> Clock {
     }
 }
 
-pub fn run(steps: &[u8]) -> bool {
+pub fn run(rt: &impl Print, steps: &[u8]) -> bool {
     let count = steps.len() / 24;
     let mut clock = first_clock();
     let mut i = 0;
     while i < count {
         let t = one(clock, step::at(steps, i));
         if !t.known {
-            return text::bad_step();
+            return text::bad_step(rt);
         }
-        if !clock_line(t) {
+        if !clock_line(rt, t) {
             return false;
         }
         clock = t.clock;

@@ -23,10 +23,10 @@ fn leaves(goes_on: bool, stats: Stats) -> Stepped {
 }
 
 // The end of a line: age, counters and the table's sum.
-fn finish(line: &mut [u8; 512], at: usize, words: &[u64], s: Stats) -> Stepped {
+fn finish(rt: &impl Print, line: &mut [u8; 512], at: usize, words: &[u64], s: Stats) -> Stepped {
     let mut n = text::stats(line, at, s);
     n = text::hex_field(line, n, b" table ", fnv::of_words(words));
-    leaves(text::write(line, n), s)
+    leaves(text::write(rt, line, n), s)
 }
 
 fn entry_fields(line: &mut [u8; 512], at: usize, e: Entry) -> usize {
@@ -58,35 +58,35 @@ fn found_fields(line: &mut [u8; 512], at: usize, r: LookupResult) -> usize {
     }
 }
 
-fn lookup(words: &[u64], s: Stats, t: Step) -> Stepped {
+fn lookup(rt: &impl Print, words: &[u64], s: Stats, t: Step) -> Stepped {
     let r = tables::lookup(words, s, t.a);
     let after = r.stats;
     let mut line = [0u8; 512];
     let mut n = text::field(&mut line, 0, b"lookup ", r.refusal as u64);
     n = text::bytes(&mut line, n, b" found ");
     n = found_fields(&mut line, n, r);
-    finish(&mut line, n, words, after)
+    finish(rt, &mut line, n, words, after)
 }
 
 // The answer of a store, a reset or a clear.
-fn stats_line(word: &[u8], words: &[u64], r: StatsResult) -> Stepped {
+fn stats_line(rt: &impl Print, word: &[u8], words: &[u64], r: StatsResult) -> Stepped {
     let after = r.stats;
     let mut line = [0u8; 512];
     let n = text::field(&mut line, 0, word, r.refusal as u64);
-    finish(&mut line, n, words, after)
+    finish(rt, &mut line, n, words, after)
 }
 
 // A store; a bound that is none of the three is a bad step.
-fn store(words: &mut [u64], s: Stats, t: Step) -> Stepped {
+fn store(rt: &impl Print, words: &mut [u64], s: Stats, t: Step) -> Stepped {
     if t.h > 2 {
-        return leaves(text::bad_step(), s);
+        return leaves(text::bad_step(rt), s);
     }
     let bound = transposition::bound_of(t.h as u8);
     let r = tables::store(words, s, t.a, t.d, t.s, t.m, bound);
-    stats_line(b"store ", words, r)
+    stats_line(rt, b"store ", words, r)
 }
 
-fn occupancy(words: &[u64], s: Stats) -> Stepped {
+fn occupancy(rt: &impl Print, words: &[u64], s: Stats) -> Stepped {
     let r = tables::occupancy(words);
     let o = r.occupancy;
     let mut line = [0u8; 512];
@@ -94,7 +94,7 @@ fn occupancy(words: &[u64], s: Stats) -> Stepped {
     n = float::field(&mut line, n, b" exact ", o.exact);
     n = float::field(&mut line, n, b" lower ", o.lower);
     n = float::field(&mut line, n, b" upper ", o.upper);
-    leaves(text::write(&mut line, n), s)
+    leaves(text::write(rt, &mut line, n), s)
 }
 
 fn rate_fields(line: &mut [u8; 512], r: Rate) -> usize {
@@ -105,39 +105,39 @@ fn rate_fields(line: &mut [u8; 512], r: Rate) -> usize {
     }
 }
 
-fn rate(r: Rate, s: Stats) -> Stepped {
+fn rate(rt: &impl Print, r: Rate, s: Stats) -> Stepped {
     let mut line = [0u8; 512];
     let n = rate_fields(&mut line, r);
-    leaves(text::write(&mut line, n), s)
+    leaves(text::write(rt, &mut line, n), s)
 }
 
-fn one(words: &mut [u64], s: Stats, t: Step) -> Stepped {
+fn one(rt: &impl Print, words: &mut [u64], s: Stats, t: Step) -> Stepped {
     let operation = t.operation;
     match operation {
-        1 => lookup(words, s, t),
-        2 => store(words, s, t),
+        1 => lookup(rt, words, s, t),
+        2 => store(rt, words, s, t),
         3 => {
             let r = tables::reset(words, s);
-            stats_line(b"reset ", words, r)
+            stats_line(rt, b"reset ", words, r)
         }
         4 => {
             let r = tables::clear(words, s);
-            stats_line(b"clear ", words, r)
+            stats_line(rt, b"clear ", words, r)
         }
-        5 => occupancy(words, s),
-        6 => rate(rates::hit_rate(s), s),
-        7 => rate(rates::miss_rate(s), s),
-        8 => rate(rates::collision_rate(s), s),
-        _ => leaves(text::bad_step(), s),
+        5 => occupancy(rt, words, s),
+        6 => rate(rt, rates::hit_rate(s), s),
+        7 => rate(rt, rates::miss_rate(s), s),
+        8 => rate(rt, rates::collision_rate(s), s),
+        _ => leaves(text::bad_step(rt), s),
     }
 }
 
-pub fn run(stats: Stats, words: &mut [u64], steps: &[u8]) -> bool {
+pub fn run(rt: &impl Print, stats: Stats, words: &mut [u64], steps: &[u8]) -> bool {
     let count = steps.len() / 24;
     let mut s = stats;
     let mut i = 0;
     while i < count {
-        let r = one(words, s, step::at(steps, i));
+        let r = one(rt, words, s, step::at(steps, i));
         if !r.goes_on {
             return false;
         }

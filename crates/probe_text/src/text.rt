@@ -2,7 +2,6 @@
 ghost use Rattle.std.specs.Prelude.{◌≡◌, min, max, unsigned_abs};
 ghost use Rattle.probe_text.specs.Line.{line_at, put, puts, Spelled, sign_of};
 
-use libc::STDOUT_FILENO;
 use table::Stats;
 
 // Each function answers where the next byte goes. The longest line has under 400 bytes; what a full line has no room for is left out.
@@ -100,32 +99,31 @@ pub fn stats(line: &mut [u8; 512], at: usize, s: Stats) -> usize {
     field(line, n, b" collisions ", s.collisions)
 }
 
-fn write_start(line: &[u8], n: usize) -> bool {
+fn write_start(rt: &impl Print, line: &[u8], n: usize) -> bool {
     if n <= line.len() {
-        return io::write_all(STDOUT_FILENO, &line[..n]);
+        return rt.write_all(&line[..n]).is_ok();
     }
     false
 }
 
 // Writes the line up to `at`, and a line end; false where that fails.
-pub fn write(line: &mut [u8; 512], at: usize) -> bool {
+pub fn write(rt: &impl Print, line: &mut [u8; 512], at: usize) -> bool {
     let n = byte(line, at, b'\n');
-    write_start(line, n)
+    write_start(rt, line, n)
 }
 
 // The lines that end a run.
-pub fn bad_request() -> bool {
-    io::write_all(STDOUT_FILENO, b"bad request\n");
+pub fn bad_request(rt: &impl Print) -> bool {
+    let _ = rt.write_all(b"bad request\n");
     false
 }
 
-pub fn bad_step() -> bool {
-    io::write_all(STDOUT_FILENO, b"bad step\n");
+pub fn bad_step(rt: &impl Print) -> bool {
+    let _ = rt.write_all(b"bad step\n");
     false
 }
 
-pub fn read_failed() -> bool {
-    io::write_all(STDOUT_FILENO, b"read failed\n");
-    os::fail(b"standard input");
+pub fn read_failed(rt: &impl Print) -> bool {
+    let _ = rt.write_all(b"read failed\n");
     false
 }

@@ -26,7 +26,6 @@ use Rattle.turn.specs.Prune.{futile_of, late_of, reduction_if}
 use Rattle.leave.specs.Cutoff.{cutoff_of}
 use Rattle.leave.specs.Finish.{game_end, stored_of, end_if, finish_if}
 use Rattle.visits.specs.Search as search
-use Rattle.root_steps.specs.declared.Best.{Best}
 use Rattle.root_steps.specs.declared.Depths.{Depths}
 use Rattle.root_steps.specs.Step as root
 use Rattle.root_steps.specs.Step.{fresh_stats, mate_of, mated_of, place_root, score_if, kept_of, stopped_if, first_if, saved_if}

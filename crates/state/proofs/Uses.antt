@@ -1,10 +1,9 @@
 -- What an entry that counts makes of the window, by its bound. Assumes nothing.
-use Rattle.std.proofs.Common.{◌≡◌, true, false, ℤ, sym, refl, ap}
+use Rattle.std.proofs.Common.{◌≡◌, true, false, ℤ, sym, ap}
 use lib.Signed.{lt_z}
 use Rattle.transposition.specs.declared.Bound.{Bound}
 use Rattle.transposition.specs.declared.Bound.TheVariants.{Exact, Lower, Upper}
 use Rattle.transposition.specs.declared.Entry.{Entry}
-use Rattle.state.specs.declared.Consulted.{Consulted}
 use Rattle.state.specs.Consult.{narrowed, by_bound, use_of}
 
 module _ (e : Entry) (a b : ℤ) where

@@ -3,7 +3,6 @@ use Rattle.std.specs.Prelude.{ℕ, ◌+◌, ◌%◌, ◌^◌, Bool, true, false,
 use Rattle.transposition.specs.declared.Bound.{Bound}
 use Rattle.table.specs.declared.Stats.{Stats}
 use Rattle.table.specs.declared.Looked.{Looked}
-use Rattle.table.specs.declared.Found.{Found}
 use Rattle.table.specs.declared.Found.TheVariants.{Miss}
 use Rattle.table.specs.Table.{Table, lookup_of, store_of}
 use Rattle.state.specs.declared.State.{State}

@@ -1,9 +1,8 @@
 -- A cleared table: its length, what each slot holds, and which depths go into an empty slot. Assumes nothing.
-use Rattle.std.proofs.Common.{◌≡◌, ℕ, ◌+◌, ◌<◌, ◌≤◌, Bool, true, false, List, length, get_or, replicate, ℤ, pos, negsuc, refl, ap, ◌∙◌, arith}
+use Rattle.std.proofs.Common.{◌≡◌, ℕ, ◌+◌, ◌<◌, ◌≤◌, List, length, get_or, ℤ, pos, ap, arith}
 use lib.ListN.{length-replicate, get_or-replicate}
 use lib.Signed.{le_z}
-use Rattle.transposition.specs.Word.{bound_of, entry_of}
-use Rattle.transposition.specs.declared.Bound.{Bound}
+use Rattle.transposition.specs.Word.{entry_of}
 use Rattle.transposition.specs.declared.Entry.{Entry}
 use Rattle.table.specs.Slot.{slot_of, entry_at, replaces}
 use Rattle.table.specs.Table.{clear_of}

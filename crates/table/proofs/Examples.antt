@@ -1,5 +1,5 @@
 -- 01, Entries on both sides, computed from the definitions that the contracts cite. Assumes nothing.
-use Rattle.std.proofs.Common.{◌≡◌, ℕ, true, false, List, [], ◌∷◌, pos, negsuc, refl}
+use Rattle.std.proofs.Common.{◌≡◌, ℕ, true, false, [], ◌∷◌, pos, negsuc, refl}
 use Rattle.transposition.specs.Word.{bound_of, data_word, entry_of}
 use Rattle.transposition.specs.declared.Bound.TheVariants.{Exact}
 use Rattle.table.specs.Slot.{slot_of, replaces}

@@ -6,7 +6,6 @@ use Rattle.transposition.specs.Word.{entry_of}
 use Rattle.transposition.specs.declared.Entry.{Entry}
 use Rattle.transposition.proofs.Packing.{Valid, entry_valid}
 use Rattle.table.specs.Slot.{slot_of, hash_at, data_at, entry_at, is_empty, is_of, find_of}
-use Rattle.table.specs.declared.Found.{Found}
 use Rattle.table.specs.declared.Found.TheVariants.{Miss, Collision, Hit}
 
 -- the answer by what is read at k

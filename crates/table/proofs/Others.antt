@@ -6,12 +6,12 @@ use Rattle.transposition.specs.Word.{data_word, entry_of, hash_word}
 use Rattle.transposition.specs.declared.Bound.{Bound}
 use Rattle.transposition.specs.declared.Entry.{Entry}
 use Rattle.transposition.proofs.Packing.{Valid, read_back}
-use Rattle.table.specs.Slot.{slot_of, hash_at, data_at, entry_at, find_of, replaces, put}
+use Rattle.table.specs.Slot.{slot_of, entry_at, find_of, replaces, put}
 use Rattle.table.specs.Table.{Table, new_entry, store_of}
 use Rattle.table.specs.declared.Found.{Found}
 use Rattle.table.specs.declared.Found.TheVariants.{Miss, Collision, Hit}
 use Rattle.table.specs.declared.Stats.{Stats}
-use Rattle.table.proofs.Finding.{Holds, hit_holds}
+use Rattle.table.proofs.Finding.{hit_holds}
 use Rattle.table.proofs.Keep.{store_keeps, store_puts}
 use Rattle.table.proofs.Again.{data_put, xor_put}
 

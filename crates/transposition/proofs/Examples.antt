@@ -3,7 +3,7 @@
 use mathlib.Core.Path.{◌≡◌, refl}
 use lib.IntN.{negsuc}
 use Rattle.transposition.specs.Word.{bound_of, data_word, entry_of, hash_word}
-use Rattle.transposition.specs.declared.Bound.TheVariants.{Exact, Lower, Upper}
+use Rattle.transposition.specs.declared.Bound.TheVariants.{Exact, Lower}
 use Rattle.transposition.specs.declared.Entry.{Entry}
 
 abbrev pub example : Entry

@@ -1,8 +1,8 @@
 -- Laws of a move's turn and of the walk, at the values that the code has. Assumes nothing.
-use mathlib.Core.Path.{◌≡◌, refl, sym, ap, ap₂, ◌∙◌}
+use mathlib.Core.Path.{◌≡◌, sym, ap, ◌∙◌}
 use mathlib.Core.Bool.{Bool, true, false}
 use mathlib.Core.List.{List}
-use Prim.Native.Nat.{ℕ, zero, suc, ◌+◌, ◌-◌, ◌≤◌, ◌<◌}
+use Prim.Native.Nat.{ℕ, suc, ◌+◌, ◌-◌, ◌≤◌, ◌<◌}
 use native.Mathlib.Omega.{arith}
 use lib.Dec.{eqb}
 use lib.IntN.{ℤ}
@@ -16,7 +16,7 @@ use Rattle.carry.specs.declared.Here.{Here}
 use Rattle.carry.specs.declared.Loc.{Loc}
 use Rattle.carry.specs.declared.Turn.{Turn}
 use Rattle.carry.specs.Carry.{With, with}
-use Rattle.turn.specs.Window.{unfinished, counted_of, full_of, null_of, first_best, again_of, inside_of, judge_of}
+use Rattle.turn.specs.Window.{unfinished, counted_of, full_of, null_of, again_of, inside_of}
 use Rattle.turn.specs.Prune.{futile_of, reduction_at}
 use Rattle.leave.specs.Cutoff.{cutoff_of}
 use Rattle.visits.specs.Search.{Visit, widen_if, widen_f, again_if, again_f, reduced_f, judged, judged_first, futile_if, turn_if, turn_f, next_if, next_f, walk_f}

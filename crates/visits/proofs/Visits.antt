@@ -1,11 +1,10 @@
 -- Laws of a visit's steps around its walk, at the values that the code has. Assumes nothing.
-use mathlib.Core.Path.{◌≡◌, refl, sym, ap, ◌∙◌}
+use mathlib.Core.Path.{◌≡◌, sym, ap, ◌∙◌}
 use mathlib.Core.Bool.{Bool, true, false}
 use mathlib.Core.List.{List}
-use Prim.Native.Nat.{ℕ, zero, suc, ◌+◌, ◌-◌, ◌<◌}
+use Prim.Native.Nat.{ℕ, zero, suc, ◌-◌, ◌<◌}
 use native.Mathlib.Nat.{not-suc-le-zero}
 use native.Mathlib.Omega.{arith}
-use lib.Dec.{eqb}
 use lib.IntN.{ℤ, pos}
 use borrow.Author.Tests.{eq-eqb, ne_eqb}
 use Rattle.state.specs.declared.Settings.{Settings}
@@ -20,7 +19,7 @@ use Rattle.carry.specs.declared.Turn.{Turn}
 use Rattle.carry.specs.declared.Entered.{Entered}
 use Rattle.carry.specs.declared.Entered.TheVariants.{Answer, Moves}
 use Rattle.carry.specs.Carry.{With, with, beside}
-use Rattle.enter.specs.Enter.{extend_of, enter_of, deepens_of, inner_of, hinted_of}
+use Rattle.enter.specs.Enter.{extend_of, enter_of, deepens_of, inner_of}
 use Rattle.leave.specs.Finish.{finish_of}
 use Rattle.visits.specs.Search.{Visit, capture_of, walk_all, hinted, deepen_if, deepen_f, entered_f, depth_if, depth_f, stop_if, polled_f, visit_f}
 

@@ -7,7 +7,7 @@ use Rattle.state.specs.declared.Settings.{Settings}
 use Rattle.state.specs.declared.State.{State}
 use Rattle.state.specs.declared.Out.{Out}
 use Rattle.moves.specs.declared.Place.{Place}
-use Rattle.state.specs.State.{Over, poll_of, answer_of}
+use Rattle.state.specs.State.{poll_of, answer_of}
 use Rattle.moves.specs.Order.{child_of}
 use Rattle.capture_steps.specs.declared.Capture.{Capture}
 use Rattle.captures.specs.Captures.{captures_f}

@@ -1,9 +1,7 @@
 -- `capture_steps::depth_of` meets its contract: the number is small, and so is its negation. Assumes nothing.
-use mathlib.Core.Path.{◌≡◌, ◌∙◌}
-use Prim.Native.Nat.{◌≤◌}
-use borrow.Author.Rules.{rules}
+use mathlib.Core.Path.{◌≡◌}
 use native.Mathlib.Omega.{arith}
-use lib.IntN.{pos, neg_ℤ, nat_abs, ◌-ℤ◌, +ℤ_idl}
+use lib.IntN.{pos, neg_ℤ, ◌-ℤ◌, +ℤ_idl}
 use mir.Syntax.{w8}
 use mir.Val.{SFits, to_z}
 use mir.Facts.{to_z-of_z, to_z_pos}

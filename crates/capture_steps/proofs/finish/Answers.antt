@@ -1,5 +1,5 @@
 -- `capture_steps::finish` meets its contract: whether the walk cut picks. Assumes nothing.
-use mathlib.Core.Path.{◌≡◌, sym, ap, ◌∙◌}
+use mathlib.Core.Path.{sym, ap, ◌∙◌}
 use mathlib.Core.Bool.{Bool}
 use borrow.Author.Rules.{rules}
 use mir.Syntax.{w16}

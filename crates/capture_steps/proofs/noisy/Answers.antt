@@ -1,11 +1,9 @@
 -- `capture_steps::noisy` meets its contract: whether the child is quiet picks. Assumes nothing.
-use mathlib.Core.Path.{◌≡◌, sym, ap, subst, ◌∙◌}
-use Prim.Native.Nat.{ℕ, ◌+◌, ◌<◌}
-use borrow.Author.Rules.{rules}
+use mathlib.Core.Path.{sym, ap, subst, ◌∙◌}
+use Prim.Native.Nat.{◌+◌, ◌<◌}
 use native.Mathlib.Omega.{arith}
 use Rattle.tree.proofs.Blocked.{nodes_most, record_in}
 use Rattle.tree.specs.Blocks.{nodes_of}
-use Rattle.moves.specs.declared.Place.{Place}
 use Rattle.capture_steps.specs.Step.{PlaceIn, noisy_at}
 use Rattle.capture_steps.proofs.Steps.{noisy_quiet, noisy_noisy}
 use Rattle.capture_steps.proofs.noisy.Goals as goal

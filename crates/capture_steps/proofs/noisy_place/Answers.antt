@@ -1,6 +1,6 @@
 -- `capture_steps::noisy_place` meets its contract: the hint's place, if the child there is noisy. Assumes nothing.
-use mathlib.Core.Path.{◌≡◌, sym, ap₂, subst, ◌∙◌}
-use Prim.Native.Nat.{ℕ, ◌+◌, ◌<◌}
+use mathlib.Core.Path.{sym, ap₂, subst, ◌∙◌}
+use Prim.Native.Nat.{ℕ}
 use native.Mathlib.Omega.{arith}
 use Rattle.tree.proofs.Blocked.{record_in}
 use Rattle.tree.specs.Blocks.{nodes_of}
@@ -30,8 +30,8 @@ noisy-requires-clause-blocked c = c.requires.laid.blocked
 pub noisy-requires-clause-place_in : goal.noisy-requires-clause-place_in
 noisy-requires-clause-place_in c =
     place_in (nodes_of c.args.tree.now) c.first_child-first.result c.child_count-count.result c.place_of-place.result
-          (subst (Among c.child_count-count.result) (sym c.place_of-place.ensures) (place_among c.args.tree.now c.first_child-first.result c.child_count-count.result c.args.loc.mv))
-          (omega (arith, kids_within c.args.tree.now c.requires.laid c.args.here.node c.requires.node_bound, c.first_child-first.ensures, c.child_count-count.ensures))
+    (subst (Among c.child_count-count.result) (sym c.place_of-place.ensures) (place_among c.args.tree.now c.first_child-first.result c.child_count-count.result c.args.loc.mv))
+    (omega (arith, kids_within c.args.tree.now c.requires.laid c.args.here.node c.requires.node_bound, c.first_child-first.ensures, c.child_count-count.ensures))
 
 pub returns : goal.returns
 unfolding noisy_place

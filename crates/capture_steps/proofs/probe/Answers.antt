@@ -1,5 +1,5 @@
 -- `capture_steps::probe` meets its contract: the table cuts, or leaves a walk to be made. Assumes nothing.
-use mathlib.Core.Path.{◌≡◌, sym, ap, ◌∙◌}
+use mathlib.Core.Path.{◌≡◌, ap, ◌∙◌}
 use borrow.Author.Rules.{rules}
 use lib.IntN.{ℤ}
 use mir.Syntax.{w8, w16}

@@ -1,6 +1,5 @@
 -- `capture_steps::stand_pat` meets its contract: one law for each way. Assumes nothing.
 use mathlib.Core.Path.{◌≡◌, sym, ◌∙◌}
-use mathlib.Core.Bool.{Bool}
 use borrow.Author.Rules.{rules}
 use mir.Syntax.{w16}
 use mir.Val.{SFits}

@@ -1,17 +1,16 @@
 -- `capture_steps::store_alpha` meets its contract: with no move nothing is stored. Assumes nothing.
-use mathlib.Core.Path.{◌≡◌, ap, ap₂, ◌∙◌}
+use mathlib.Core.Path.{ap, ap₂, ◌∙◌}
 use Prim.Native.Nat.{ℕ}
 use borrow.Author.Rules.{rules}
 use lib.IntN.{ℤ}
 use mir.Syntax.{w8, w16}
 use mir.Val.{SFits}
 use mir.Facts.{to_z-of_z}
-use Rattle.transposition.specs.declared.Bound.{Bound}
 use Rattle.tree.proofs.Blocked.{record_in}
 use Rattle.record.specs.Node.{hash_of}
 use Rattle.state.specs.declared.Out.{Out}
 use Rattle.state.specs.State.{over, keep_of}
-use Rattle.capture_steps.specs.Step.{depth_of, kept_with}
+use Rattle.capture_steps.specs.Step.{depth_of}
 use Rattle.capture_steps.proofs.Steps.{store_none, store_move}
 use Rattle.capture_steps.proofs.store_alpha.Goals as goal
 

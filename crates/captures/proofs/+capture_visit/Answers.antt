@@ -1,12 +1,9 @@
 -- The cycle of the captures search (captures, walk, turn) meets its contracts. The measure of a call is the nodes that remain, then a number for
 -- the function. Each answer cites the laws of Walks. `s` is a function's start, and p an earlier place. Assumes nothing.
-use Prim.Native.Nat.{ℕ, ◌+◌, ◌-◌, ◌*◌, ◌<◌, ◌≤◌}
-use mathlib.Core.Path.{◌≡◌, refl, sym, ap, ap₂, subst, ◌∙◌}
+use Prim.Native.Nat.{ℕ, ◌-◌, ◌<◌}
+use mathlib.Core.Path.{refl, sym, ap, ap₂, subst, ◌∙◌}
 use native.Mathlib.Nat.{sub-zero}
 use native.Mathlib.Omega.{arith}
-use borrow.Author.Rules.{rules}
-use lib.ListN.{length}
-use Rattle.tree.specs.Blocks.{nodes_of}
 use Rattle.tree.proofs.Blocked.{record_in}
 use Rattle.moves.specs.Order.{child_of}
 use Rattle.state.specs.State.{over}
@@ -132,8 +129,7 @@ pub turn-captures-r-requires : goal.turn-captures-r-requires
 turn-captures-r-requires t c =
     let r = c.requires.reach in
     let e = c.down.ensures in
-    let reach = subst (λ x. Reach c.args.tree.now x.node x.below x.ply) (sym e) r in
-    (
+    let reach = subst (λ x. Reach c.args.tree.now x.node x.below x.ply) (sym e) r in (
       omega (arith, c.decreases, c.requires.node_bound, c.requires.node_lt_c, r.in_tree, ap (λ x. x.node) e),
       (c.requires.accepted_by, (reach, c.requires.in_bounds)),
     )
@@ -234,8 +230,7 @@ walk-loop-i-preserved t c =
     let here = c.args.here in
     let place = c.noisy_place-place.result in
     let n = c.child_count-n.result in
-    let taken = c.loop-i-test.true in
-    (
+    let taken = c.loop-i-test.true in (
       omega (arith, taken),
       (
         c.turn-t.auto.words ∙ c.loop-i.invariant.1.0,

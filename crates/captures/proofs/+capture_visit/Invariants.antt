@@ -1,8 +1,7 @@
 -- The measure of a call is the nodes that remain, then a number for the function; what the walk keeps. Assumes nothing.
 use Rattle.std.proofs.Common.{◌≡◌, ℕ, ◌+◌, ◌-◌, ◌*◌, ◌≤◌, length}
 use Rattle.tree.specs.Blocks.{nodes_of}
-use Rattle.state.specs.State.{over}
-use Rattle.captures.specs.Captures.{captures_f, walk_f, walk_all}
+use Rattle.captures.specs.Captures.{captures_f, walk_f}
 use Rattle.captures.proofs.+capture_visit.Given as goal
 
 abbrev pub decreases-captures : goal.decreases-captures

@@ -1,5 +1,4 @@
 -- `clock::allocation` meets its contract. Assumes nothing.
-use borrow.Author.Rules.{rules}
 use mathlib.Core.Path.{refl}
 use native.Mathlib.Omega.{arith}
 use Rattle.clock.specs.Ticks.{allocation}

@@ -1,5 +1,4 @@
 -- `clock::allocation_refused` meets its contract. Assumes nothing.
-use borrow.Author.Rules.{rules}
 use Rattle.clock.specs.Refusals.{allocation_refused}
 use Rattle.clock.proofs.Laws.{first_passes, second_decides}
 use Rattle.clock.proofs.allocation_refused.Goals as goal

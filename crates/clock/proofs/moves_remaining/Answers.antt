@@ -1,5 +1,4 @@
 -- `clock::moves_remaining` meets its contract. Assumes nothing.
-use borrow.Author.Rules.{rules}
 use borrow.Author.Tests.{eq-eqb, ne_eqb}
 use native.Mathlib.Nat.{mod-lt, le_of_lt}
 use native.Mathlib.Omega.{arith}

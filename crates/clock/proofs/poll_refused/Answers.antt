@@ -1,5 +1,4 @@
 -- `clock::poll_refused` meets its contract: each test in the order of row 10. Assumes nothing.
-use borrow.Author.Rules.{rules}
 use borrow.Author.Tests.{lt-ltb, le-ltb}
 use Rattle.clock.specs.Refusals.{poll_refused}
 use Rattle.clock.proofs.poll_refused.Goals as goal

@@ -1,5 +1,4 @@
 -- `clock::time_up` meets its contract. Assumes nothing.
-use borrow.Author.Rules.{rules}
 use native.Mathlib.Omega.{arith}
 use Rattle.clock.specs.Ticks.{time_up}
 use Rattle.clock.proofs.Laws.{now_from, now_to}

@@ -1,6 +1,5 @@
 -- `enter::enter` meets its contract: the draw flag picks. Assumes nothing.
 use mathlib.Core.Path.{sym, ap, ◌∙◌}
-use borrow.Author.Rules.{rules}
 use Rattle.tree.proofs.Blocked.{record_in}
 use Rattle.carry.specs.declared.Entered.TheVariants.{Answer}
 use Rattle.enter.specs.Enter.{draw_if, enter_of}

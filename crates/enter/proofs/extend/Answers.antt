@@ -1,6 +1,5 @@
 -- `enter::extend` meets its contract: the check flag picks. Assumes nothing.
 use mathlib.Core.Path.{sym, ◌∙◌}
-use borrow.Author.Rules.{rules}
 use Rattle.tree.proofs.Blocked.{record_in}
 use Rattle.enter.specs.Enter.{extended, extend_of}
 use Rattle.enter.proofs.extend.Goals as goal

@@ -7,7 +7,7 @@ use lib.IntN.{pos}
 use mir.Syntax.{w16}
 use mir.Val.{SFits, to_z, of_z}
 use mir.Facts.{to_z-of_z}
-use Rattle.score.specs.Wrap.{add16, sub16}
+use Rattle.score.specs.Wrap.{add16}
 use Rattle.tree.proofs.Blocked.{record_in}
 use Rattle.enter.specs.Enter.{margin_if}
 use Rattle.carry.proofs.Margins.{margin_fits, margin_is}

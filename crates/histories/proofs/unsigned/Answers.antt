@@ -1,6 +1,5 @@
 -- `histories::unsigned` meets its contract: the bits of a number from 0 on are the number. Assumes nothing.
 use mathlib.Core.Path.{◌∙◌}
-use borrow.Author.Rules.{rules}
 use lib.IntN.{ℤ}
 use mir.Syntax.{w16}
 use Rattle.score.specs.Bits.{bits_of}

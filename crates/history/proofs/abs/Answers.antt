@@ -1,6 +1,5 @@
 -- `history::abs` meets its contract: below zero the negation is the size, and that fits. Assumes nothing.
 use mathlib.Core.Path.{◌≡◌}
-use borrow.Author.Rules.{rules}
 use native.Mathlib.Omega.{arith}
 use lib.IntN.{pos, nat_abs, ◌-ℤ◌}
 use lib.Signed.{nat_abs-le}

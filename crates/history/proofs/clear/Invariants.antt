@@ -1,12 +1,9 @@
 -- `history::clear` meets its contract. The loop's invariant: the first i entries are 0, the rest are as they were. Assumes nothing.
-use mathlib.Core.Path.{◌≡◌, refl, ◌∙◌}
+use mathlib.Core.Path.{◌≡◌}
 use mathlib.Core.List.{◌++◌}
-use Prim.Native.Nat.{◌-◌, ◌≤◌, ◌<◌}
-use native.Mathlib.Omega.{arith}
+use Prim.Native.Nat.{◌-◌, ◌≤◌}
 use lib.IntN.{pos}
-use lib.ListN.{length, replicate, drop, length-set}
-use Rattle.history.specs.Entries.{clear_of}
-use Rattle.history.proofs.Fill.{fill_more, fill_all}
+use lib.ListN.{length, replicate, drop}
 use Rattle.history.proofs.clear.Given as goal
 
 abbrev pub invariant-loop-i : goal.invariant-loop-i

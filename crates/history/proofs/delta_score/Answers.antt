@@ -1,6 +1,5 @@
 -- `history::delta_score` meets its contract: a quarter of HH_MAX fits a score. Assumes nothing.
 use mathlib.Core.Path.{◌≡◌, ap, ◌∙◌}
-use borrow.Author.Rules.{rules}
 use lib.IntN.{pos}
 use mir.Syntax.{w16}
 use mir.Val.{SFits}

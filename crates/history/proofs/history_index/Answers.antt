@@ -1,5 +1,4 @@
 -- `history::history_index` meets its contract: no sum wraps, since each part of a move is small. Assumes nothing.
-use borrow.Author.Rules.{rules}
 use native.Mathlib.Omega.{arith}
 use Rattle.history.specs.Entries.{index_of}
 use Rattle.history.proofs.history_index.Goals as goal

@@ -1,6 +1,6 @@
 -- `history::within` meets its contract. The loop's invariant: the test of the entries from i on is the test of all. Assumes nothing.
-use mathlib.Core.Path.{◌≡◌, refl, sym, ap, ◌∙◌}
-use Prim.Native.Nat.{ℕ, ◌-◌, ◌≤◌}
+use mathlib.Core.Path.{◌≡◌, sym, ap, ◌∙◌}
+use Prim.Native.Nat.{ℕ}
 use borrow.Author.Rules.{rules}
 use native.Mathlib.Omega.{arith}
 use lib.IntN.{pos, nat_abs}

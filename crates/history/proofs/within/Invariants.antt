@@ -1,15 +1,8 @@
 -- `history::within` meets its contract. The loop's invariant: the test of the entries from i on is the test of all. Assumes nothing.
-use mathlib.Core.Path.{◌≡◌, refl, sym, ap, ◌∙◌}
-use Prim.Native.Nat.{ℕ, ◌-◌, ◌≤◌}
-use borrow.Author.Rules.{rules}
-use native.Mathlib.Omega.{arith}
-use lib.IntN.{pos, nat_abs}
-use lib.ListN.{length, get_or, drop}
-use mir.Syntax.{w16}
-use mir.Val.{SFits}
-use mir.Facts.{to_z-of_z}
+use mathlib.Core.Path.{◌≡◌}
+use Prim.Native.Nat.{◌-◌, ◌≤◌}
+use lib.ListN.{length, drop}
 use Rattle.history.specs.Entries.{within_of}
-use Rattle.history.proofs.Inside.{inside, outside, none_left}
 use Rattle.history.proofs.within.Given as goal
 
 abbrev pub invariant-loop-i : goal.invariant-loop-i

@@ -1,7 +1,6 @@
 -- `moves::child` meets its contract: the first child's number and the place's. Assumes nothing.
 use mathlib.Core.Path.{◌≡◌, ap₂}
 use Prim.Native.Nat.{ℕ, ◌+◌}
-use borrow.Author.Rules.{rules}
 use native.Mathlib.Omega.{arith}
 use Rattle.tree.proofs.Blocked.{nodes_most, record_in}
 use Rattle.moves.specs.Order.{child_of}

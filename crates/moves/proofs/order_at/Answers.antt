@@ -1,6 +1,5 @@
 -- `moves::order_at` meets its contract: one law for each way. Assumes nothing.
-use mathlib.Core.Path.{refl, sym, ap, ◌∙◌}
-use borrow.Author.Rules.{rules}
+use mathlib.Core.Path.{sym, ap, ◌∙◌}
 use Rattle.moves.specs.Order.{order_at}
 use Rattle.moves.specs.declared.Place.{Place}
 use Rattle.moves.proofs.Ordered.{order_first, order_before, order_behind}

@@ -1,14 +1,7 @@
 -- `moves::place_of` meets its contract. The loop's invariant: the scan from i on is the scan from the start. Assumes nothing.
-use mathlib.Core.Path.{◌≡◌, refl, sym, ap, ◌∙◌}
-use mathlib.Core.Logic.{⊎_elim}
-use Prim.Native.Nat.{ℕ, ◌+◌, ◌-◌, ◌≤◌}
-use native.Mathlib.Nat.{sub-zero}
-use native.Mathlib.Omega.{arith}
-use borrow.Author.Rules.{rules}
-use Rattle.tree.proofs.Blocked.{nodes_most, record_in}
-use Rattle.record.specs.Node.{move_of}
+use mathlib.Core.Path.{◌≡◌}
+use Prim.Native.Nat.{◌-◌, ◌≤◌}
 use Rattle.moves.specs.Order.{scan}
-use Rattle.moves.proofs.Ordered.{scan_over, scan_found, scan_passed, place_none, place_scan}
 use Rattle.moves.proofs.place_of.Given as goal
 
 abbrev pub invariant-loop-i : goal.invariant-loop-i

@@ -1,5 +1,4 @@
 -- `reductions::quarter` meets its contract. Assumes nothing.
-use borrow.Author.Rules.{rules}
 use Rattle.reductions.proofs.Digits.{fourth_quarter}
 use Rattle.reductions.proofs.quarter.Goals as goal
 

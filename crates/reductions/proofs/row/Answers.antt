@@ -16,7 +16,7 @@ Apart (suc n) x = Apart n x × (x ≡ n → ⊥)
 
 beyond-next : (n x : ℕ) (b : Bool) → ltb n x ≡ b → n ≤ x → (x ≡ n → ⊥) → suc n ≤ x
 beyond-next n x true q least apart = ltb-true n x q
-beyond-next n x false q least apart =    let most : x ≤ n = ltb-false n x q in
+beyond-next n x false q least apart = let most : x ≤ n = ltb-false n x q in
     absurd (apart (omega arith))
 
 beyond : (n x : ℕ) → Apart n x → n ≤ x

@@ -1,7 +1,6 @@
 -- `refusals::history_right` meets its contract: the bits of HH_MAX are HH_MAX. Assumes nothing.
 use mathlib.Core.Path.{◌≡◌, ap, ◌∙◌}
 use Prim.Native.Nat.{ℕ}
-use borrow.Author.Rules.{rules}
 use lib.IntN.{ℤ, nat_abs}
 use mir.Syntax.{w16}
 use Rattle.score.specs.Bits.{bits_of}

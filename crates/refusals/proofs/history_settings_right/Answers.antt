@@ -1,6 +1,5 @@
 -- `refusals::history_settings_right` meets its contract: HH_MAX's range, then the side. Assumes nothing.
 use mathlib.Core.Path.{◌≡◌, sym, ◌∙◌}
-use borrow.Author.Rules.{rules}
 use borrow.Author.Tests.{not-true, not-false}
 use lib.Dec.{leb}
 use Rattle.score.proofs.Bits.{said}

@@ -1,6 +1,5 @@
 -- `refusals::tree_rows` meets its contract: the settings' row, then the tree's. Assumes nothing.
 use mathlib.Core.Path.{◌≡◌, sym, ◌∙◌}
-use borrow.Author.Rules.{rules}
 use borrow.Author.Tests.{not-true, not-false}
 use lib.IntN.{ℤ}
 use Rattle.score.proofs.Bits.{said}

@@ -1,6 +1,5 @@
 -- `refusals::tree_settings_right` meets its contract: INF's range, then MAX_PLY's. Assumes nothing.
 use mathlib.Core.Path.{◌≡◌, sym, ◌∙◌}
-use borrow.Author.Rules.{rules}
 use borrow.Author.Tests.{not-true, not-false}
 use Rattle.score.proofs.Bits.{said}
 use Rattle.refusals.specs.Rows.{inf_right, max_ply_right, tree_settings_right}

@@ -1,13 +1,9 @@
 -- `root::deepening` meets its contract: the depths from each one on are all of them. Assumes nothing.
-use mathlib.Core.Path.{◌≡◌, refl, sym, ◌∙◌}
-use Prim.Native.Nat.{◌-◌, ◌≤◌}
+use mathlib.Core.Path.{refl, sym, ◌∙◌}
 use native.Mathlib.Omega.{arith}
-use borrow.Author.Rules.{rules}
-use lib.ListN.{length}
 use Rattle.carry.specs.Carry.{with}
 use Rattle.visits.specs.Search.{node_search}
 use Rattle.visits.proofs.Asked.{still_ready}
-use Rattle.root.specs.Root.{depths_f}
 use Rattle.root.proofs.Depths.{depths_mate, depths_over, depths_next, depths_end}
 use Rattle.root.proofs.deepening.Goals as goal
 
@@ -40,19 +36,18 @@ pub loop-depth-smaller : goal.loop-depth-smaller
 loop-depth-smaller c = omega (arith, c.loop-depth-test.true)
 
 pub loop-depth-preserved : goal.loop-depth-preserved
-loop-depth-preserved c =
+loop-depth-preserved c = (
+  omega (arith, c.loop-depth.invariant.0),
+  (
+    c.root_depth-d.auto.words ∙ c.loop-depth.invariant.1.0,
     (
-      omega (arith, c.loop-depth.invariant.0),
-      (
-        c.root_depth-d.auto.words ∙ c.loop-depth.invariant.1.0,
-        (
-          c.root_depth-d.auto.history ∙ c.loop-depth.invariant.1.1.0,
-          sym (depths_next (node_search c.args.tree.now c.args.set) c.args.tree.now c.args.set c.args.end c.loop-depth.depth c.loop-depth.d c.loop-depth.words c.loop-depth.history c.loop-depth-test.true
-              (sym c.mated.ensures ∙ c.if-mated.false) (with c.root_depth-d.result c.root_depth-d.new.words c.root_depth-d.new.history) c.root_depth-d.ensures c.if-over.false)
-              ∙ c.loop-depth.invariant.1.1.1,
-        ),
-      ),
-    )
+      c.root_depth-d.auto.history ∙ c.loop-depth.invariant.1.1.0,
+      sym (depths_next (node_search c.args.tree.now c.args.set) c.args.tree.now c.args.set c.args.end c.loop-depth.depth c.loop-depth.d c.loop-depth.words c.loop-depth.history c.loop-depth-test.true
+          (sym c.mated.ensures ∙ c.if-mated.false) (with c.root_depth-d.result c.root_depth-d.new.words c.root_depth-d.new.history) c.root_depth-d.ensures c.if-over.false)
+          ∙ c.loop-depth.invariant.1.1.1,
+    ),
+  ),
+)
 
 pub returns : goal.returns
 returns c =

@@ -1,14 +1,10 @@
 -- `root::deepening` meets its contract: the depths from each one on are all of them. Assumes nothing.
-use mathlib.Core.Path.{◌≡◌, refl, sym, ◌∙◌}
+use mathlib.Core.Path.{◌≡◌}
 use Prim.Native.Nat.{◌-◌, ◌≤◌}
-use native.Mathlib.Omega.{arith}
-use borrow.Author.Rules.{rules}
 use lib.ListN.{length}
 use Rattle.carry.specs.Carry.{with}
 use Rattle.visits.specs.Search.{node_search}
-use Rattle.visits.proofs.Asked.{still_ready}
 use Rattle.root.specs.Root.{depths_f}
-use Rattle.root.proofs.Depths.{depths_mate, depths_over, depths_next, depths_end}
 use Rattle.root.proofs.deepening.Given as goal
 
 abbrev pub invariant-loop-depth : goal.invariant-loop-depth

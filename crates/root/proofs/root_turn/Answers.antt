@@ -1,6 +1,5 @@
 -- `root::root_turn` meets its contract: the move is counted, visited in the whole tree's fuel, and judged. Assumes nothing.
 use mathlib.Core.Path.{sym, subst, ap, ◌∙◌}
-use borrow.Author.Rules.{rules}
 use Rattle.moves.proofs.Kids.{blocked}
 use Rattle.carry.specs.Carry.{with}
 use Rattle.visits.specs.Reach.{Reach}

@@ -1,10 +1,8 @@
 -- `root::root_walk` meets its contract: the rest of the walk, from each move on, is the whole walk. Assumes nothing.
 use mathlib.Core.Path.{◌≡◌, refl, sym, subst, ap, ◌∙◌}
-use Prim.Native.Nat.{ℕ, ◌-◌, ◌≤◌}
+use Prim.Native.Nat.{ℕ}
 use native.Mathlib.Nat.{sub-zero}
 use native.Mathlib.Omega.{arith}
-use borrow.Author.Rules.{rules}
-use lib.ListN.{length}
 use Rattle.tree.proofs.Blocked.{record_in}
 use Rattle.moves.specs.Kid.{Kid}
 use Rattle.moves.specs.Order.{child_of}
@@ -60,21 +58,20 @@ root_turn-w-requires c =
     }
 
 pub loop-i-preserved : goal.loop-i-preserved
-loop-i-preserved c =
+loop-i-preserved c = (
+  omega arith,
+  (
+    c.root_turn-w.auto.words ∙ c.loop-i.invariant.1.0,
     (
-      omega arith,
-      (
-        c.root_turn-w.auto.words ∙ c.loop-i.invariant.1.0,
-        (
-          c.root_turn-w.auto.history ∙ c.loop-i.invariant.1.1.0,
-          sym (walk_next (node_search c.args.tree.now c.args.set) c.args.tree.now c.args.set c.args.depth c.place_of-place.result c.child_count-n.result c.loop-i.i c.loop-i.w c.loop-i.words c.loop-i.history
-              c.polled-p.result c.loop-i-test.true c.polled-p.ensures c.if-stop.false
-              (with c.root_turn-w.result c.root_turn-w.new.words c.root_turn-w.new.history)
-              (c.root_turn-w.ensures ∙ ap (λ (x : ℕ). turn_f (node_search c.args.tree.now c.args.set) c.args.tree.now c.args.set c.args.depth c.polled-p.result x c.loop-i.words c.loop-i.history) c.child-c.ensures))
-              ∙ c.loop-i.invariant.1.1.1,
-        ),
-      ),
-    )
+      c.root_turn-w.auto.history ∙ c.loop-i.invariant.1.1.0,
+      sym (walk_next (node_search c.args.tree.now c.args.set) c.args.tree.now c.args.set c.args.depth c.place_of-place.result c.child_count-n.result c.loop-i.i c.loop-i.w c.loop-i.words c.loop-i.history
+          c.polled-p.result c.loop-i-test.true c.polled-p.ensures c.if-stop.false
+          (with c.root_turn-w.result c.root_turn-w.new.words c.root_turn-w.new.history)
+          (c.root_turn-w.ensures ∙ ap (λ (x : ℕ). turn_f (node_search c.args.tree.now c.args.set) c.args.tree.now c.args.set c.args.depth c.polled-p.result x c.loop-i.words c.loop-i.history) c.child-c.ensures))
+          ∙ c.loop-i.invariant.1.1.1,
+    ),
+  ),
+)
 
 pub returns : goal.returns
 returns c =

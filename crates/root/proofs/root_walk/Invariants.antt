@@ -1,20 +1,10 @@
 -- `root::root_walk` meets its contract: the rest of the walk, from each move on, is the whole walk. Assumes nothing.
-use mathlib.Core.Path.{◌≡◌, refl, sym, subst, ap, ◌∙◌}
-use Prim.Native.Nat.{ℕ, ◌-◌, ◌≤◌}
-use native.Mathlib.Nat.{sub-zero}
-use native.Mathlib.Omega.{arith}
-use borrow.Author.Rules.{rules}
+use mathlib.Core.Path.{◌≡◌}
+use Prim.Native.Nat.{◌-◌, ◌≤◌}
 use lib.ListN.{length}
-use Rattle.tree.proofs.Blocked.{record_in}
-use Rattle.moves.specs.Kid.{Kid}
-use Rattle.moves.specs.Order.{child_of}
-use Rattle.moves.proofs.Kids.{blocked, laid}
 use Rattle.carry.specs.Carry.{with}
 use Rattle.visits.specs.Search.{node_search}
-use Rattle.visits.proofs.Asked.{still_ready}
-use Rattle.root.specs.Root.{turn_f, walk_f, walk_all}
-use Rattle.root.proofs.Asked.{root_in, root_kid}
-use Rattle.root.proofs.Walks.{walk_stop, walk_next, walk_over, walk_whole}
+use Rattle.root.specs.Root.{walk_f}
 use Rattle.root.proofs.root_walk.Given as goal
 
 abbrev pub invariant-loop-i : goal.invariant-loop-i

@@ -1,6 +1,5 @@
 -- `root::search_root` meets its contract: history zeroed, then the depths. Assumes nothing.
 use mathlib.Core.Path.{refl, ◌∙◌}
-use borrow.Author.Rules.{rules}
 use Rattle.visits.proofs.Asked.{still_ready}
 use Rattle.root.proofs.Depths.{root_is}
 use Rattle.root.proofs.search_root.Goals as goal

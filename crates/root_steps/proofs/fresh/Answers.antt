@@ -1,5 +1,4 @@
 -- `root_steps::fresh` meets its contract: all is 0 but the age and the counters. Assumes nothing.
-use borrow.Author.Rules.{rules}
 use Rattle.root_steps.proofs.fresh.Goals as goal
 
 pub returns : goal.returns

@@ -1,5 +1,4 @@
 -- `root_steps::fresh_stats` meets its contract: the switch picks. Assumes nothing.
-use borrow.Author.Rules.{rules}
 use Rattle.root_steps.specs.Step.{fresh_stats}
 use Rattle.root_steps.proofs.fresh_stats.Goals as goal
 

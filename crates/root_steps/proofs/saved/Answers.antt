@@ -1,6 +1,5 @@
 -- `root_steps::saved` meets its contract: a move at depth 1, or one of a depth that was not stopped. Assumes nothing.
 use mathlib.Core.Path.{ap, ◌∙◌}
-use borrow.Author.Rules.{rules}
 use Rattle.state.specs.State.{over}
 use Rattle.root_steps.specs.declared.Depths.{Depths}
 use Rattle.root_steps.proofs.Steps.{saved_none, saved_first, saved_stopped, saved_kept}

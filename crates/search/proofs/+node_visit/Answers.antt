@@ -1,13 +1,10 @@
 -- The cycle of the node search (search_node, deepen, walk, turn, reduced, widened) meets its contracts. The measure of a call is the nodes that
 -- remain, then the depth, then a number for the function. Each answer cites the laws of Turns, Visits and Asked. `s` is a function's start, and p, q
 -- earlier places. Assumes nothing.
-use Prim.Native.Nat.{ℕ, ◌+◌, ◌-◌, ◌*◌, ◌<◌, ◌≤◌}
+use Prim.Native.Nat.{ℕ, ◌+◌, ◌-◌, ◌<◌, ◌≤◌}
 use mathlib.Core.Path.{◌≡◌, refl, sym, ap, ap₂, subst, ◌∙◌}
 use native.Mathlib.Nat.{sub-zero}
 use native.Mathlib.Omega.{arith}
-use borrow.Author.Rules.{rules}
-use lib.ListN.{length}
-use Rattle.tree.specs.Blocks.{nodes_of}
 use Rattle.tree.proofs.Accepted.{count_most}
 use Rattle.tree.proofs.Blocked.{record_in}
 use Rattle.state.specs.declared.Out.{Out}
@@ -25,7 +22,7 @@ use Rattle.carry.specs.declared.Turn.{Turn}
 use Rattle.carry.specs.Carry.{with, beside}
 use Rattle.leave.specs.Cutoff.{cutoff_of}
 use Rattle.turn.specs.Window.{judge_of}
-use Rattle.visits.specs.Reach.{Reach, Inside, need}
+use Rattle.visits.specs.Reach.{Reach, Inside}
 use Rattle.visits.specs.Search.{visit_f, walk_f, turn_f}
 use Rattle.visits.proofs.Turns.{widen_yes, widen_no, reduced_again, reduced_once, turn_first, turn_futile, turn_reduced, walk_next, walk_cut, walk_over}
 use Rattle.visits.proofs.Visits.{deepen_yes, deepen_no, visit_stop, visit_captures, visit_answer, visit_moves}
@@ -606,8 +603,7 @@ walk-loop-i-preserved t c =
     let n = c.child_count-n.result in
     let words = c.turn-t.new.words in
     let history = c.turn-t.new.history in
-    let taken = c.loop-i-test.true in
-    (
+    let taken = c.loop-i-test.true in (
       omega (arith, taken),
       (
         c.turn-t.auto.words ∙ c.loop-i.invariant.1.0,

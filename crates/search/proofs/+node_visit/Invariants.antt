@@ -1,7 +1,6 @@
 -- The measure of a call is the nodes that remain, then the depth, then a number for the function; what the walk keeps. Assumes nothing.
 use Rattle.std.proofs.Common.{◌≡◌, ℕ, ◌+◌, ◌-◌, ◌*◌, ◌≤◌, length}
 use Rattle.tree.specs.Blocks.{nodes_of}
-use Rattle.carry.specs.Carry.{with}
 use Rattle.visits.specs.Reach.{need}
 use Rattle.visits.specs.Search.{visit_f, walk_f}
 use Rattle.search.proofs.+node_visit.Given as goal

@@ -1,5 +1,5 @@
 -- `state::consult` meets its contract: one case for each thing that a lookup finds. Assumes nothing.
-use Rattle.std.proofs.Common.{sym, ap, ◌∙◌, to_z-of_z, rules}
+use Rattle.std.proofs.Common.{sym, ap, ◌∙◌, to_z-of_z}
 use Rattle.table.specs.declared.Found.{Found}
 use Rattle.state.specs.Consult.{consult_of}
 use Rattle.state.proofs.consult.Goals as goal

@@ -1,5 +1,5 @@
 -- `state::consult_entry` meets its contract: whether the entry counts picks. Assumes nothing.
-use Rattle.std.proofs.Common.{◌≡◌, Bool, true, false, ◌&&◌, sym, ap, ◌∙◌, to_z-of_z, w16, SFits, rules}
+use Rattle.std.proofs.Common.{◌≡◌, Bool, ◌&&◌, sym, ap, ◌∙◌, to_z-of_z, w16, SFits, rules}
 use lib.Signed.{le_z}
 use Rattle.state.specs.Consult.{use_if}
 use Rattle.state.proofs.consult_entry.Goals as goal

@@ -1,5 +1,5 @@
 -- `state::hint_of` meets its contract: one case for each thing that a lookup finds. Assumes nothing.
-use Rattle.std.proofs.Common.{sym, ap, rules}
+use Rattle.std.proofs.Common.{sym, ap}
 use Rattle.state.specs.Consult.{hint_of}
 use Rattle.state.proofs.hint_of.Goals as goal
 

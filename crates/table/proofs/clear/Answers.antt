@@ -1,5 +1,5 @@
 -- `table::clear` meets its contract. The loop's invariant: the words before i are 0, and the others are as they were. Assumes nothing.
-use Rattle.std.proofs.Common.{◌≡◌, ℕ, ◌-◌, ◌<◌, ◌≤◌, List, ◌++◌, length, drop, replicate, refl, ap, ◌∙◌, arith, length-set}
+use Rattle.std.proofs.Common.{◌≡◌, ℕ, ◌<◌, List, length, refl, ap, ◌∙◌, arith, length-set}
 use Rattle.table.specs.Stats.{zeroed}
 use Rattle.table.specs.Table.{table_of, clear_of}
 use Rattle.table.proofs.Fill.{fill_more, fill_all}
@@ -13,8 +13,7 @@ offset_bounds-words-i c = omega (arith, c.well_formed)
 
 pub loop-i-preserved : goal.loop-i-preserved
 loop-i-preserved c =
-    let n : c.loop-i.i < length c.args.words.now = omega arith in
-    (
+    let n : c.loop-i.i < length c.args.words.now = omega arith in (
       omega arith,
       (
         length-set c.loop-i.words c.loop-i.i 0 ∙ c.loop-i.invariant.1.0,

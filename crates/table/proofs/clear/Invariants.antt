@@ -1,8 +1,5 @@
 -- `table::clear` meets its contract. The loop's invariant: the words before i are 0, and the others are as they were. Assumes nothing.
-use Rattle.std.proofs.Common.{◌≡◌, ℕ, ◌-◌, ◌<◌, ◌≤◌, List, ◌++◌, length, drop, replicate, refl, ap, ◌∙◌, arith, length-set}
-use Rattle.table.specs.Stats.{zeroed}
-use Rattle.table.specs.Table.{table_of, clear_of}
-use Rattle.table.proofs.Fill.{fill_more, fill_all}
+use Rattle.std.proofs.Common.{◌≡◌, ◌-◌, ◌≤◌, ◌++◌, length, drop, replicate}
 use Rattle.table.proofs.clear.Given as goal
 
 abbrev pub invariant-loop-i : goal.invariant-loop-i

@@ -1,5 +1,5 @@
 -- `table::find` meets its contract: one law for each answer. Assumes nothing.
-use Rattle.std.proofs.Common.{◌≡◌, length, rules}
+use Rattle.std.proofs.Common.{◌≡◌, length}
 use Rattle.table.specs.Slot.{slot_of}
 use Rattle.table.proofs.Finding.{is_miss, is_hit, is_collision}
 use Rattle.table.proofs.find.Goals as goal

@@ -1,6 +1,4 @@
 -- `table::lookup` meets its contract: what `find` found, and what `looked` made of it. Assumes nothing.
-use Rattle.std.proofs.Common.{ap, ◌∙◌, rules}
-use Rattle.table.specs.Stats.{looked}
 use Rattle.table.specs.Table.{lookup_of}
 use Rattle.table.proofs.lookup.Goals as goal
 

@@ -1,5 +1,5 @@
 -- `table::slot` meets its contract: a remainder by n is below n. Assumes nothing.
-use Rattle.std.proofs.Common.{◌/◌, ◌%◌, ◌<◌, refl, mod-lt, arith, rules}
+use Rattle.std.proofs.Common.{◌/◌, ◌%◌, ◌<◌, refl, mod-lt, arith}
 use Rattle.table.specs.Slot.{slot_of}
 use Rattle.table.proofs.Keep.{slot_in}
 use Rattle.table.proofs.slot.Goals as goal

@@ -1,5 +1,5 @@
 -- `table::store` meets its contract: one law where it replaces, one where it does not. Assumes nothing.
-use Rattle.std.proofs.Common.{◌≡◌, arith, length-set, to_z-of_z, rules}
+use Rattle.std.proofs.Common.{◌≡◌, arith, length-set, to_z-of_z}
 use Rattle.transposition.specs.Word.{data_word}
 use Rattle.table.specs.Slot.{replaces}
 use Rattle.table.specs.Table.{new_entry}

@@ -1,7 +1,6 @@
 -- `table::well_sized` meets its contract. The loop's invariant: the size is twice the k-th power of two, and the sizes before it were tested. Assumes nothing.
-use Rattle.std.proofs.Common.{◌≡◌, ℕ, ◌-◌, ◌*◌, ◌^◌, ◌<◌, ◌≤◌, refl, ap, ◌∙◌, ⊎_elim, arith}
+use Rattle.std.proofs.Common.{◌≡◌, ◌-◌, ◌*◌, ◌^◌, ◌≤◌}
 use Rattle.table.specs.Table.{sized_to}
-use Rattle.table.proofs.Size.{size_met, size_not, size_next, size_bound}
 use Rattle.table.proofs.well_sized.Given as goal
 
 abbrev pub invariant-loop-k : goal.invariant-loop-k

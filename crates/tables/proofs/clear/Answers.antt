@@ -1,6 +1,5 @@
 -- `tables::clear` meets its contract: refused, or a table of zeros. Assumes nothing.
 use mathlib.Core.Path.{sym, ◌∙◌}
-use borrow.Author.Rules.{rules}
 use borrow.Author.Tests.{not-true, not-false}
 use Rattle.table.specs.Table.{table_of, clear_of}
 use Rattle.tables.proofs.TableAnswers.{table_eight, table-made}

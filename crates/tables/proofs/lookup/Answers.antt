@@ -1,7 +1,6 @@
 -- `tables::lookup` meets its contract: refused, or what the table's lookup gives. Assumes nothing.
 use mathlib.Core.Path.{◌≡◌, sym, ◌∙◌}
 use mathlib.Core.Bool.{true}
-use borrow.Author.Rules.{rules}
 use borrow.Author.Tests.{not-true, not-false}
 use Rattle.refusals.specs.Rows.{table_right}
 use Rattle.tables.proofs.TableAnswers.{words_least, lookup_eight, lookup_made}

@@ -1,6 +1,5 @@
 -- `tables::reset` meets its contract: refused, or the next age and counters of 0. Assumes nothing.
 use mathlib.Core.Path.{sym, ◌∙◌}
-use borrow.Author.Rules.{rules}
 use borrow.Author.Tests.{not-true, not-false}
 use Rattle.tables.proofs.TableAnswers.{reset_eight, reset_made}
 use Rattle.tables.proofs.reset.Goals as goal

@@ -1,7 +1,6 @@
 -- `tables::store` meets its contract: refused, or what the table's store leaves. Assumes nothing.
 use mathlib.Core.Path.{◌≡◌, sym, ◌∙◌}
 use mathlib.Core.Bool.{true}
-use borrow.Author.Rules.{rules}
 use borrow.Author.Tests.{not-true, not-false}
 use mir.Facts.{to_z-of_z}
 use Rattle.table.specs.Table.{Table, table_of, store_of}

@@ -1,5 +1,5 @@
 -- `tree::check` meets its contract: each return rewrites with the rows passed before it. Assumes nothing.
-use Rattle.std.proofs.Common.{◌≡◌, true, ℤ, sym, refl, ◌∙◌, rules}
+use Rattle.std.proofs.Common.{◌≡◌, true, ℤ, sym, refl, ◌∙◌}
 use borrow.Author.Tests.{not-true, not-false}
 use Rattle.score.proofs.Bits.{said}
 use Rattle.tree.specs.Blocks.{length_right, Blocked}

@@ -1,5 +1,4 @@
 -- `trees::check_tree` meets its contract: it is the rows' own. Assumes nothing.
-use borrow.Author.Rules.{rules}
 use lib.IntN.{ℤ}
 use Rattle.score.proofs.Bits.{said}
 use Rattle.refusals.specs.First.{tree_rows}

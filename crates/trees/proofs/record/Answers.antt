@@ -1,6 +1,5 @@
 -- `trees::record` meets its contract: the part of an accepted tree, or the empty part. Assumes nothing.
 use mathlib.Core.Path.{◌≡◌, sym, ◌∙◌}
-use borrow.Author.Rules.{rules}
 use lib.IntN.{ℤ}
 use Rattle.score.proofs.Bits.{said}
 use Rattle.tree.proofs.Accepted.{record_in, handed_record, handed_none}

@@ -1,6 +1,5 @@
 -- `trees::record_refusal` meets its contract: the tree's rows, then the node's. Assumes nothing.
 use mathlib.Core.Path.{◌≡◌, sym, ◌∙◌}
-use borrow.Author.Rules.{rules}
 use lib.IntN.{ℤ}
 use borrow.Author.Tests.{not-true, not-false}
 use Rattle.score.proofs.Bits.{said}

@@ -1,5 +1,4 @@
 -- `clock::Clock::allocated` meets its contract. Assumes nothing.
-use borrow.Author.Rules.{rules}
 use mathlib.Core.Path.{◌∙◌, sym}
 use Rattle.clock.specs.Ticks.{allocated_of}
 use Rattle.clock.proofs.Answering.{refuses, goes}

@@ -1,5 +1,4 @@
 -- `clock::Clock::new` meets its contract. Assumes nothing.
-use borrow.Author.Rules.{rules}
 use Rattle.clock.specs.Ticks.{new_of}
 use Rattle.clock.proofs.Answering.{refuses, goes}
 use Rattle.clock.proofs.Clock.new.Goals as goal

@@ -1,5 +1,4 @@
 -- `clock::Clock::poll` meets its contract. Assumes nothing.
-use borrow.Author.Rules.{rules}
 use mathlib.Core.Path.{◌∙◌, ap, sym}
 use Rattle.clock.specs.Answers.{stopped}
 use Rattle.clock.specs.Refusals.{now_out, allocation_refused}

@@ -1,5 +1,4 @@
 -- `clock::Clock::set_time` meets its contract. Assumes nothing.
-use borrow.Author.Rules.{rules}
 use Rattle.clock.specs.Ticks.{set_time_of}
 use Rattle.clock.proofs.Answering.{refuses, goes}
 use Rattle.clock.proofs.Clock.set_time.Goals as goal

@@ -1,5 +1,4 @@
 -- `clock::Clock::start` meets its contract. Assumes nothing.
-use borrow.Author.Rules.{rules}
 use mathlib.Core.Path.{◌∙◌, sym}
 use native.Mathlib.Omega.{arith}
 use Rattle.clock.specs.Ticks.{start_of}

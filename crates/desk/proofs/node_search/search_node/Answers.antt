@@ -1,8 +1,7 @@
 -- `desk::node_search::search_node` meets its contract: refused, or what the node search gives, with demand 3. Assumes nothing.
-use mathlib.Core.Path.{◌≡◌, refl, sym, ap, ap₂, subst, ◌∙◌}
+use mathlib.Core.Path.{◌≡◌, sym, ap, ap₂, subst, ◌∙◌}
 use mathlib.Core.Bool.{true}
 use native.Mathlib.Omega.{arith}
-use borrow.Author.Rules.{rules}
 use lib.IntN.{pos}
 use lib.Signed.{le_z}
 use Rattle.carry.specs.Carry.{with}
@@ -27,7 +26,7 @@ use Rattle.desk.proofs.node_search.search_node.Goals as goal
 pub returns-then-r-ne0-clause-searched : goal.returns-then-r-ne0-clause-searched
 returns-then-r-ne0-clause-searched c =
     ap (λ (x : NodeResult). with x c.args.words.now c.args.history.now) c.node_refused.ensures
-          ∙ node_refused_lem c.args.tree.now c.args.words.now c.args.history.now c.args.set c.args.at c.args.stats _ c.node_refusal-r.ensures c.if-r-ne0.true
+    ∙ node_refused_lem c.args.tree.now c.args.words.now c.args.history.now c.args.set c.args.at c.args.stats _ c.node_refusal-r.ensures c.if-r-ne0.true
 
 pub returns-then-r-ne0-clause-truth : goal.returns-then-r-ne0-clause-truth
 returns-then-r-ne0-clause-truth c = λ p z st. absurd (c.if-r-ne0.true (sym (ap (λ (x : NodeResult). x.refusal) c.node_refused.ensures) ∙ z))
@@ -94,8 +93,8 @@ returns-clause-searched c =
     let here : Reach t x = subst (Reach t) (sym c.args_of-a.ensures) (reach) in
     let searched : answer ≡ node_search t set st words history x = c.search_node-o.ensures (whole t) (enough t x here) in
     ap (λ (r : NodeResult). with r c.search_node-o.new.words c.search_node-o.new.history) c.node_result.ensures
-          ∙ node_given_lem t words history set at c.args.stats none answer
-          (searched ∙ ap₂ (λ (r : State) (y : Args). node_search t set r words history y) c.fresh_state-st.ensures c.args_of-a.ensures)
+    ∙ node_given_lem t words history set at c.args.stats none answer
+    (searched ∙ ap₂ (λ (r : State) (y : Args). node_search t set r words history y) c.fresh_state-st.ensures c.args_of-a.ensures)
 
 pub returns-clause-truth : goal.returns-clause-truth
 returns-clause-truth c =
@@ -133,5 +132,5 @@ returns-clause-truth c =
     let searched : answer ≡ node_search t set st words history x = c.search_node-o.ensures (whole t) (enough t x here) in
     let ok = search_accepted t words history set (rows) in
     subst (NodeTold set t at) (sym c.node_result.ensures)
-          (λ p z e. subst (λ (y : Args). Told set t y c.search_node-o.result) c.args_of-a.ensures (told set t ok x here st words history answer searched)
-          p in_range windowed e)
+    (λ p z e. subst (λ (y : Args). Told set t y c.search_node-o.result) c.args_of-a.ensures (told set t ok x here st words history answer searched)
+    p in_range windowed e)

@@ -1,7 +1,6 @@
 -- `desk::node_search::side_at` meets its contract: the level's parity. Assumes nothing.
 use mathlib.Core.Path.{sym, ap, ◌∙◌}
 use Prim.Native.Nat.{ℕ, ◌%◌}
-use borrow.Author.Rules.{rules}
 use borrow.Author.Tests.{eq-eqb, ne_eqb}
 use Rattle.desk.proofs.Starting.{side_even, side_odd}
 use Rattle.desk.proofs.node_search.side_at.Goals as goal

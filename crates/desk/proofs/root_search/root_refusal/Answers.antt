@@ -1,6 +1,5 @@
 -- `desk::root_search::root_refusal` meets its contract: the searches' rows, then the range. Assumes nothing.
 use mathlib.Core.Path.{◌≡◌, sym, ◌∙◌}
-use borrow.Author.Rules.{rules}
 use borrow.Author.Tests.{not-true, not-false}
 use mir.Facts.{to_z-of_z}
 use Rattle.refusals.specs.Rows.{range_right}

@@ -1,7 +1,6 @@
 -- `desk::root_search::search_root` meets its contract: refused, or what the root search gives. Assumes nothing.
-use mathlib.Core.Path.{◌≡◌, refl, sym, ap, ap₂, ◌∙◌}
+use mathlib.Core.Path.{◌≡◌, sym, ap, ap₂, ◌∙◌}
 use Prim.Native.Nat.{ℕ}
-use borrow.Author.Rules.{rules}
 use mathlib.Core.Bool.{true}
 use lib.IntN.{pos, nat_abs}
 use lib.Signed.{le_z}
@@ -55,11 +54,10 @@ search_root-d-requires-clause-side_bound c =
     let end-size : c.unsigned-2.result ≡ nat_abs c.args.end = simp (to_z-of_z c.ranges.end) at c.unsigned-2.ensures in
     let end-zero : le_z (pos 0) c.args.end ≡ true = from_start c.args.start c.args.end start-from (start_end c.args.start c.args.end right.1) in
     let rows = (right).0 in
-    let range = (right).1 in
-    (
-        set_side_most c.args.set (search_settings_right c.args.tree.now c.args.words.now c.args.history.now c.args.set rows),
-        (rw start-size (size_least c.args.start start-from), rw end-size (size_most c.args.end 31 end-zero (end_most c.args.start c.args.end range))),
-      )
+    let range = (right).1 in (
+      set_side_most c.args.set (search_settings_right c.args.tree.now c.args.words.now c.args.history.now c.args.set rows),
+      (rw start-size (size_least c.args.start start-from), rw end-size (size_most c.args.end 31 end-zero (end_most c.args.start c.args.end range))),
+    )
 
 pub returns : goal.returns
 returns c =

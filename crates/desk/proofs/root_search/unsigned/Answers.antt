@@ -1,5 +1,4 @@
 -- `desk::root_search::unsigned` meets its contract: a depth from 0 on is its size. Assumes nothing.
-use borrow.Author.Rules.{rules}
 use mir.Facts.{to_z-of_z, Fits-nat_abs}
 use Rattle.desk.proofs.Searching.{from_zero}
 use Rattle.desk.proofs.root_search.unsigned.Goals as goal

@@ -1,9 +1,8 @@
 -- `leave::cutoff::credit` meets its contract. The loop's invariant: the malus of the moves before i is given. Assumes nothing.
-use mathlib.Core.Path.{◌≡◌, refl, sym, ap, ◌∙◌}
-use Prim.Native.Nat.{ℕ, ◌-◌, ◌≤◌}
+use mathlib.Core.Path.{refl, sym, ap, ◌∙◌}
+use Prim.Native.Nat.{ℕ}
 use native.Mathlib.Omega.{arith}
 use borrow.Author.Rules.{rules}
-use lib.ListN.{length}
 use mir.Syntax.{w8}
 use mir.Facts.{to_z_pos}
 use Rattle.moves.specs.Order.{child_of}
@@ -43,8 +42,7 @@ malus_at-requires-clause-history_len c =
 pub loop-i-preserved : goal.loop-i-preserved
 loop-i-preserved c =
     let t = c.args.tree.now in
-    let i = c.loop-i.i in
-    (
+    let i = c.loop-i.i in (
       omega arith,
       (
         search rules,

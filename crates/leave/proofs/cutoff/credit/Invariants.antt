@@ -1,14 +1,8 @@
 -- `leave::cutoff::credit` meets its contract. The loop's invariant: the malus of the moves before i is given. Assumes nothing.
-use mathlib.Core.Path.{◌≡◌, refl, sym, ap, ◌∙◌}
-use Prim.Native.Nat.{ℕ, ◌-◌, ◌≤◌}
-use native.Mathlib.Omega.{arith}
-use borrow.Author.Rules.{rules}
+use mathlib.Core.Path.{◌≡◌}
+use Prim.Native.Nat.{◌-◌, ◌≤◌}
 use lib.ListN.{length}
-use mir.Syntax.{w8}
-use mir.Facts.{to_z_pos}
-use Rattle.moves.specs.Order.{child_of}
-use Rattle.leave.specs.Cutoff.{malus_at, malus_to, credit_of}
-use Rattle.leave.proofs.Credits.{malus-more}
+use Rattle.leave.specs.Cutoff.{malus_to}
 use Rattle.leave.proofs.cutoff.credit.Given as goal
 
 abbrev pub invariant-loop-i : goal.invariant-loop-i

@@ -1,7 +1,6 @@
 -- `leave::cutoff::malus_at` meets its contract: the first move and a noisy one get none. Assumes nothing.
 use mathlib.Core.Path.{sym, ◌∙◌}
 use native.Mathlib.Omega.{arith}
-use borrow.Author.Rules.{rules}
 use borrow.Author.Tests.{eq-eqb, ne_eqb}
 use mir.Syntax.{w8}
 use mir.Facts.{to_z_pos}

@@ -1,7 +1,6 @@
 -- `percentages::occupancy::counted` meets its contract. The loop's invariant: the counts of the slots before k. Assumes nothing.
 use mathlib.Core.Path.{◌≡◌, refl, sym, ap, ◌∙◌, subst}
-use mathlib.Core.Logic.{⊎_elim}
-use Prim.Native.Nat.{ℕ, ◌-◌, ◌/◌, ◌≤◌}
+use Prim.Native.Nat.{◌/◌}
 use native.Mathlib.Omega.{arith}
 use lib.ListN.{length}
 use Rattle.percentages.specs.Occupancy.{counts_to}
@@ -20,12 +19,12 @@ add-c-requires c =
 
 pub loop-k-preserved : goal.loop-k-preserved
 loop-k-preserved c =
-    let w = c.args.words.now in
-    (
+    let w = c.args.words.now in (
       omega arith,
       elim c.if-e-ne0.branch [
-        then-e-ne0 a ↦ a.c-is ∙ a.add-c.ensures ∙ taken w c.loop-k.k c.loop-k.c c.entry_of-e.result c.loop-k.invariant.1 c.entry_of-e.ensures a.if-e-ne0.true
-        | else-e-ne0 a ↦ a.c-is ∙ skipped w c.loop-k.k c.loop-k.c c.entry_of-e.result c.loop-k.invariant.1 c.entry_of-e.ensures a.if-e-ne0.false ],
+        | then-e-ne0 a ↦ a.c-is ∙ a.add-c.ensures ∙ taken w c.loop-k.k c.loop-k.c c.entry_of-e.result c.loop-k.invariant.1 c.entry_of-e.ensures a.if-e-ne0.true
+        | else-e-ne0 a ↦ a.c-is ∙ skipped w c.loop-k.k c.loop-k.c c.entry_of-e.result c.loop-k.invariant.1 c.entry_of-e.ensures a.if-e-ne0.false
+      ],
     )
 
 pub returns : goal.returns

@@ -1,12 +1,7 @@
 -- `percentages::occupancy::counted` meets its contract. The loop's invariant: the counts of the slots before k. Assumes nothing.
-use mathlib.Core.Path.{◌≡◌, refl, sym, ap, ◌∙◌, subst}
-use mathlib.Core.Logic.{⊎_elim}
-use Prim.Native.Nat.{ℕ, ◌-◌, ◌/◌, ◌≤◌}
-use native.Mathlib.Omega.{arith}
-use lib.ListN.{length}
+use mathlib.Core.Path.{◌≡◌}
+use Prim.Native.Nat.{◌-◌, ◌≤◌}
 use Rattle.percentages.specs.Occupancy.{counts_to}
-use Rattle.percentages.specs.declared.occupancy.Counts.{Counts}
-use Rattle.percentages.proofs.Count.{Below, counts_below, taken, skipped}
 use Rattle.percentages.proofs.occupancy.counted.Given as goal
 
 abbrev pub invariant-loop-k : goal.invariant-loop-k

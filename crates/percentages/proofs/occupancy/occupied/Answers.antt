@@ -1,6 +1,5 @@
 -- `percentages::occupancy::occupied` meets its contract: the counts are small enough for f64, and each division is the one rounding. Assumes nothing.
 use mathlib.Core.Path.{◌≡◌}
-use borrow.Author.Rules.{rules}
 use native.Mathlib.Omega.{arith}
 use Rattle.percentages.specs.Occupancy.{occupancy_of}
 use Rattle.percentages.proofs.Shares.{Room, room, exactly}

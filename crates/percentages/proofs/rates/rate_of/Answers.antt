@@ -1,7 +1,6 @@
 -- `percentages::rates::rate_of` meets its contract: the tests pick, in the definition's order. Assumes nothing.
 use mathlib.Core.Path.{ap}
 use Prim.Native.Nat.{◌^◌}
-use borrow.Author.Rules.{rules}
 use borrow.Author.Tests.{lt-ltb, le-ltb, eq-eqb, ne_eqb}
 use Rattle.percentages.specs.Rate.{a_share, said, rate_of}
 use Rattle.percentages.proofs.rates.rate_of.Goals as goal

@@ -1,6 +1,5 @@
 -- `probe::answers::record_bytes` is safe and ends: what is left of the record falls. Assumes nothing.
 use Prim.Native.Nat.{◌-◌, ◌≤◌}
-use native.Mathlib.Omega.{arith}
 use lib.ListN.{length}
 use Rattle.probe.proofs.answers.record_bytes.Given as goal
 

@@ -1,5 +1,4 @@
 -- `probe::header::right` meets its contract: both tests are asked. Assumes nothing.
-use borrow.Author.Rules.{rules}
 use mathlib.Core.Path.{sym, ◌∙◌}
 use borrow.Author.Tests.{not-true, not-false}
 use Rattle.refusals.proofs.Tests.{fails, holds}

@@ -1,5 +1,4 @@
 -- `probe::header::sent_of` meets its contract, field by field. Assumes nothing.
-use borrow.Author.Rules.{rules}
 use Rattle.probe.specs.Header.{sent_of}
 use Rattle.probe.proofs.header.sent_of.Goals as goal
 

@@ -1,5 +1,4 @@
 -- `probe::header::stats_of` meets its contract, field by field. Assumes nothing.
-use borrow.Author.Rules.{rules}
 use Rattle.probe.specs.Header.{stats_of}
 use Rattle.probe.proofs.header.stats_of.Goals as goal
 

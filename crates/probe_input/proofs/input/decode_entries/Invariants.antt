@@ -1,15 +1,7 @@
 -- `probe_input::input::decode_entries` meets its contract. The loop's invariant: the entries passed stand in their places. Assumes nothing.
-use borrow.Author.Rules.{rules}
-use mathlib.Core.Path.{◌≡◌, refl, sym, ap, ap₂, ◌∙◌}
-use mathlib.Core.List.{List}
-use Prim.Native.Nat.{◌+◌, ◌-◌, ◌≤◌}
-use native.Mathlib.Numerals.{add-one}
-use native.Mathlib.Omega.{arith}
-use lib.IntN.{ℤ}
-use lib.ListN.{length, set, length-set}
-use mir.Syntax.{w16}
-use mir.Val.{SFits, to_z}
-use mir.Facts.{to_z-of_z}
+use mathlib.Core.Path.{◌≡◌}
+use Prim.Native.Nat.{◌-◌, ◌≤◌}
+use lib.ListN.{length}
 use Rattle.probe_input.specs.Sent.{entries_from}
 use Rattle.probe_input.proofs.input.decode_entries.Given as goal
 

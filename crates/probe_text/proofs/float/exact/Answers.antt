@@ -1,5 +1,4 @@
 -- `probe_text::float::exact` is safe: a float above 0 has bits, and its fraction with the leading 1 has 53 of them. Assumes nothing.
-use Rattle.std.proofs.Common.{rules}
 use Rattle.probe_text.proofs.Floats.{above_nan}
 use Rattle.probe_text.proofs.float.exact.Goals as goal
 

@@ -1,6 +1,5 @@
 -- `probe_text::float::halve` meets its contract, turn by turn. Assumes nothing.
-use Rattle.std.proofs.Common.{◌≡◌, ℕ, ◌+◌, ◌-◌, sym, refl, subst, inr, ⊎_elim, mul-one, arith}
-use Rattle.probe_text.proofs.Halving.{Halving, even, uneven, done}
+use Rattle.probe_text.proofs.Halving.{Halving}
 use Rattle.probe_text.proofs.float.halve.Given as goal
 
 abbrev pub invariant-loop-turns : goal.invariant-loop-turns

@@ -1,5 +1,5 @@
 -- `probe_text::fnv::after` meets its contract. The loop's invariant: what is left of the number, after the sum so far, gives the whole. Assumes nothing.
-use Rattle.std.proofs.Common.{◌≡◌, ℕ, suc, ◌+◌, ◌-◌, ◌/◌, ◌≤◌, sym, ap, ◌∙◌, arith, rules}
+use Rattle.std.proofs.Common.{◌≡◌, ℕ, suc, ◌+◌, ◌-◌, ◌/◌, sym, ap, ◌∙◌, arith}
 use Rattle.probe_text.specs.Fnv.{byte_into, bytes_into}
 use Rattle.probe_text.proofs.fnv.after.Goals as goal
 

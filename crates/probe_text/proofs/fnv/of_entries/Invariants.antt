@@ -1,8 +1,7 @@
 -- `probe_text::fnv::of_entries` meets its contract. The loop's invariant: the sum over the entries passed. Assumes nothing.
-use Rattle.std.proofs.Common.{◌≡◌, ◌-◌, ◌≤◌, length, get_or, pos, refl, ap, ◌∙◌, arith, to_z-of_z, w16, SFits, rules}
+use Rattle.std.proofs.Common.{◌≡◌, ◌-◌, ◌≤◌, length, get_or, pos, w16}
 use Rattle.score.specs.Bits.{bits_of}
 use Rattle.probe_text.specs.Fnv.{sum_to}
-use Rattle.probe_text.proofs.Sums.{sum_next}
 use Rattle.probe_text.proofs.fnv.of_entries.Given as goal
 
 abbrev pub invariant-loop-i : goal.invariant-loop-i

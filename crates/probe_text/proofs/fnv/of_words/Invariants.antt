@@ -1,7 +1,6 @@
 -- `probe_text::fnv::of_words` meets its contract. The loop's invariant: the sum over the words passed. Assumes nothing.
-use Rattle.std.proofs.Common.{◌≡◌, ◌-◌, ◌≤◌, length, get_or, refl, ap, ◌∙◌, arith}
+use Rattle.std.proofs.Common.{◌≡◌, ◌-◌, ◌≤◌, length, get_or}
 use Rattle.probe_text.specs.Fnv.{sum_to}
-use Rattle.probe_text.proofs.Sums.{sum_next}
 use Rattle.probe_text.proofs.fnv.of_words.Given as goal
 
 abbrev pub invariant-loop-i : goal.invariant-loop-i

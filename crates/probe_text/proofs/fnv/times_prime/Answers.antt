@@ -1,5 +1,5 @@
 -- `probe_text::fnv::times_prime` meets its contract: each product of a half fits, and together they are the product. Assumes nothing.
-use Rattle.std.proofs.Common.{ℕ, ◌+◌, ◌*◌, ◌%◌, ◌^◌, ap, ◌∙◌, rules}
+use Rattle.std.proofs.Common.{ℕ, ◌+◌, ◌*◌, ◌%◌, ◌^◌, ap, ◌∙◌}
 use Rattle.probe_text.proofs.Sums.{halves}
 use Rattle.probe_text.proofs.fnv.times_prime.Goals as goal
 

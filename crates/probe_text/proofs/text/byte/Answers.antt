@@ -1,5 +1,5 @@
 -- `probe_text::text::byte` meets its contract: there is room for the byte, or there is not. Assumes nothing.
-use Rattle.std.proofs.Common.{rules, le-ltb, lt-ltb}
+use Rattle.std.proofs.Common.{le-ltb, lt-ltb}
 use Rattle.probe_text.specs.Line.{put}
 use Rattle.probe_text.proofs.text.byte.Goals as goal
 

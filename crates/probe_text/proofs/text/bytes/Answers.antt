@@ -1,5 +1,5 @@
 -- `probe_text::text::bytes` meets its contract. The loop's invariant: the bytes left, put after those passed, give the whole. Assumes nothing.
-use Rattle.std.proofs.Common.{◌≡◌, ◌+◌, ◌-◌, ◌≤◌, length, drop, sym, refl, ap, ◌∙◌, arith}
+use Rattle.std.proofs.Common.{◌+◌, drop, sym, ap, ◌∙◌, arith}
 use Rattle.probe_text.specs.Line.{line_at, puts}
 use Rattle.probe_text.proofs.Lines.{puts_next, puts_end}
 use Rattle.probe_text.proofs.text.bytes.Goals as goal

@@ -1,5 +1,4 @@
 -- `probe_text::text::field` meets its contract: the number comes after the word. Assumes nothing.
-use Rattle.std.proofs.Common.{rules}
 use Rattle.probe_text.proofs.Lines.{spelled_after}
 use Rattle.probe_text.proofs.text.field.Goals as goal
 

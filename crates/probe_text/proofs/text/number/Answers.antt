@@ -1,5 +1,5 @@
 -- `probe_text::text::number` meets its contract: the digits are put as bytes. Assumes nothing.
-use Rattle.std.proofs.Common.{ℕ, List, ap, ◌∙◌, rules}
+use Rattle.std.proofs.Common.{ℕ, List, ap, ◌∙◌}
 use Rattle.probe_text.specs.Line.{line_at, puts}
 use Rattle.probe_text.proofs.text.number.Goals as goal
 

@@ -1,5 +1,5 @@
 -- `probe_text::text::signed` meets its contract, by the bits of the number. Assumes nothing.
-use Rattle.std.proofs.Common.{ℤ, w16, of_z, rules}
+use Rattle.std.proofs.Common.{ℤ, w16, of_z}
 use Rattle.score.proofs.Bits.{said}
 use Rattle.probe_text.specs.Line.{line_at}
 use Rattle.probe_text.proofs.Lines.{spelled_plus, spelled_minus}

@@ -1,5 +1,5 @@
 -- `probe_text::text::signed_field` meets its contract: the number comes after the word. Assumes nothing.
-use Rattle.std.proofs.Common.{ap, to_z-of_z, rules}
+use Rattle.std.proofs.Common.{ap, to_z-of_z}
 use Rattle.probe_text.specs.Line.{puts, sign_of}
 use Rattle.probe_text.proofs.Lines.{spelled_after}
 use Rattle.probe_text.proofs.text.signed_field.Goals as goal

@@ -1,6 +1,5 @@
 -- `record::bytes::le16` meets its contract: the number in two bytes. Assumes nothing.
 use native.Mathlib.Omega.{arith}
-use borrow.Author.Rules.{rules}
 use Rattle.record.proofs.LittleEndian.{le_two}
 use Rattle.record.proofs.bytes.le16.Goals as goal
 

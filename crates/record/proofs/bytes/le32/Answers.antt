@@ -1,6 +1,5 @@
 -- `record::bytes::le32` meets its contract: a number is its halves. Assumes nothing.
 use native.Mathlib.Omega.{arith}
-use borrow.Author.Rules.{rules}
 use Rattle.record.proofs.LittleEndian.{le_split}
 use Rattle.record.proofs.bytes.le32.Goals as goal
 

@@ -1,6 +1,5 @@
 -- `record::node::child_count` meets its contract: the field is read from the node's record. Assumes nothing.
 use native.Mathlib.Omega.{arith}
-use borrow.Author.Rules.{rules}
 use Rattle.record.specs.Node.{count_of}
 use Rattle.record.proofs.Places.{record_length, record_byte}
 use Rattle.record.proofs.node.child_count.Goals as goal

@@ -1,7 +1,6 @@
 -- `record::node::first_child` meets its contract: the field is read from the node's record. Assumes nothing.
 use mathlib.Core.Path.{◌∙◌}
 use native.Mathlib.Omega.{arith}
-use borrow.Author.Rules.{rules}
 use Rattle.record.specs.Node.{first_of}
 use Rattle.record.proofs.Places.{record_length, record_le}
 use Rattle.record.proofs.node.first_child.Goals as goal

@@ -1,7 +1,6 @@
 -- `record::node::flag` meets its contract. Assumes nothing.
 use mathlib.Core.Path.{ap}
 use Prim.Native.Nat.{ℕ, ◌/◌, ◌%◌}
-use borrow.Author.Rules.{rules}
 use lib.Dec.{eqb}
 use Rattle.record.proofs.node.flag.Goals as goal
 

@@ -1,6 +1,5 @@
 -- `record::node::flags` meets its contract: the field is read from the node's record. Assumes nothing.
 use native.Mathlib.Omega.{arith}
-use borrow.Author.Rules.{rules}
 use Rattle.record.specs.Node.{flags_of}
 use Rattle.record.proofs.Places.{record_length, record_byte}
 use Rattle.record.proofs.node.flags.Goals as goal

@@ -1,5 +1,4 @@
 -- `record::node::in_check` meets its contract: `flag` at its place. Assumes nothing.
-use borrow.Author.Rules.{rules}
 use Rattle.record.specs.Node.{in_check}
 use Rattle.record.proofs.node.in_check.Goals as goal
 

@@ -1,5 +1,4 @@
 -- `record::node::is_draw` meets its contract: `flag` at its place. Assumes nothing.
-use borrow.Author.Rules.{rules}
 use Rattle.record.specs.Node.{is_draw}
 use Rattle.record.proofs.node.is_draw.Goals as goal
 

@@ -1,5 +1,4 @@
 -- `record::node::is_improving` meets its contract: `flag` at its place. Assumes nothing.
-use borrow.Author.Rules.{rules}
 use Rattle.record.specs.Node.{is_improving}
 use Rattle.record.proofs.node.is_improving.Goals as goal
 

@@ -1,5 +1,4 @@
 -- `record::node::is_pawn_ending` meets its contract: `flag` at its place. Assumes nothing.
-use borrow.Author.Rules.{rules}
 use Rattle.record.specs.Node.{is_pawn_ending}
 use Rattle.record.proofs.node.is_pawn_ending.Goals as goal
 

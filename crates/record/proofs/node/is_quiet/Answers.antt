@@ -1,5 +1,4 @@
 -- `record::node::is_quiet` meets its contract: `flag` at its place. Assumes nothing.
-use borrow.Author.Rules.{rules}
 use Rattle.record.specs.Node.{is_quiet}
 use Rattle.record.proofs.node.is_quiet.Goals as goal
 

@@ -1,5 +1,3 @@
-
-use Rattle.std.proofs.Common.{rules}
 use Rattle.state.specs.State.{count_node}
 use Rattle.state.proofs.State.count_node.Goals as goal
 

@@ -1,6 +1,5 @@
 -- `state::State::keep` meets its contract: the switch picks. Assumes nothing.
-use Rattle.std.proofs.Common.{◌≡◌, Bool, sym, refl, ap, ◌∙◌, to_z-of_z, rules}
-use Rattle.table.specs.Table.{Table, table_of, store_of}
+use Rattle.std.proofs.Common.{Bool, sym, ap, ◌∙◌, to_z-of_z}
 use Rattle.state.specs.State.{keep_of, kept_in}
 use Rattle.state.proofs.State.keep.Goals as goal
 

@@ -1,5 +1,4 @@
 -- `state::State::look` meets its contract: the switch picks. Assumes nothing.
-use Rattle.std.proofs.Common.{rules}
 use Rattle.state.specs.State.{seen_of}
 use Rattle.state.proofs.State.look.Goals as goal
 

@@ -1,5 +1,4 @@
 -- `table::Stats::inserted` meets its contract: the sum that wraps is the definition's. Assumes nothing.
-use Rattle.std.proofs.Common.{rules}
 use Rattle.table.specs.Stats.{inserted}
 use Rattle.table.proofs.Stats.inserted.Goals as goal
 

@@ -1,5 +1,5 @@
 -- `table::Stats::looked` meets its contract: each arm's two sums that wrap are the definition's. Assumes nothing.
-use Rattle.std.proofs.Common.{sym, ap, rules}
+use Rattle.std.proofs.Common.{sym, ap}
 use Rattle.table.specs.Stats.{looked}
 use Rattle.table.proofs.Stats.looked.Goals as goal
 

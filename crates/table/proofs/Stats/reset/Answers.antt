@@ -1,5 +1,5 @@
 -- `table::Stats::reset` meets its contract: the age's test picks. Assumes nothing.
-use Rattle.std.proofs.Common.{rules, le-leb}
+use Rattle.std.proofs.Common.{le-leb}
 use borrow.Author.Tests.{lt-leb}
 use Rattle.table.specs.Stats.{next_age, reset_of}
 use Rattle.table.proofs.Stats.reset.Goals as goal

@@ -1,5 +1,5 @@
 -- `tree::blocks::block_check` meets its contract. The loop's invariant: after i words the check is the definition's after i words. Assumes nothing.
-use Rattle.std.proofs.Common.{◌≡◌, ◌-◌, ◌≤◌, refl, ap, ◌∙◌, ap₂, add-one, arith}
+use Rattle.std.proofs.Common.{◌≡◌, refl, ap, ◌∙◌, ap₂, add-one, arith}
 use Rattle.tree.specs.Blocks.{turn_of, check_to}
 use Rattle.tree.proofs.blocks.block_check.Goals as goal
 

@@ -1,5 +1,5 @@
 -- `tree::blocks::block_right` meets its contract: each return rewrites with the tests that led there, in the definition's order. Assumes nothing.
-use Rattle.std.proofs.Common.{◌≡◌, ◌+◌, ◌*◌, true, eqb, sym, refl, ◌∙◌, rules, eq-eqb, ne_eqb}
+use Rattle.std.proofs.Common.{◌≡◌, ◌+◌, ◌*◌, true, eqb, sym, refl, ◌∙◌, eq-eqb, ne_eqb}
 use borrow.Author.Tests.{not-true, not-false}
 use Rattle.record.specs.Bytes.{le}
 use Rattle.tree.specs.Blocks.{used_right, block_right}

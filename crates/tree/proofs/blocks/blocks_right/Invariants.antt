@@ -1,9 +1,7 @@
 -- `tree::blocks::blocks_right` meets its contract. The loop's invariant: each block passed is right. Assumes nothing.
-use Rattle.std.proofs.Common.{◌≡◌, ◌-◌, ◌≤◌, true, sym, ◌∙◌, arith}
-use borrow.Author.Tests.{not-true, not-false}
+use Rattle.std.proofs.Common.{◌≡◌, ◌-◌, ◌≤◌, true}
 use Rattle.tree.specs.Pick.{all_below}
-use Rattle.tree.specs.Blocks.{block_right, blocks_right}
-use Rattle.tree.proofs.Every.{every_none, every_more, every_all, every_fails}
+use Rattle.tree.specs.Blocks.{block_right}
 use Rattle.tree.proofs.blocks.blocks_right.Given as goal
 
 abbrev pub invariant-loop-b : goal.invariant-loop-b

@@ -1,5 +1,5 @@
 -- `tree::blocks::nodes` meets its contract. Assumes nothing.
-use Rattle.std.proofs.Common.{arith, rules}
+use Rattle.std.proofs.Common.{arith}
 use Rattle.tree.specs.Blocks.{nodes_of}
 use Rattle.tree.proofs.blocks.nodes.Goals as goal
 

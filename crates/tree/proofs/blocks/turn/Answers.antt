@@ -1,5 +1,5 @@
 -- `tree::blocks::turn` meets its contract: the lower 31 bits doubled are the number doubled modulo 2^32. Assumes nothing.
-use Rattle.std.proofs.Common.{◌≡◌, ℕ, ◌+◌, ◌*◌, ◌/◌, ◌%◌, ap, ◌∙◌, arith, rules}
+use Rattle.std.proofs.Common.{◌≡◌, ℕ, ◌+◌, ◌*◌, ◌/◌, ◌%◌, ap, ◌∙◌, arith}
 use Rattle.tree.proofs.blocks.turn.Goals as goal
 
 pub returns : goal.returns

@@ -1,5 +1,5 @@
 -- `tree::blocks::used_right` meets its contract: each return rewrites with the tests that led there. Assumes nothing.
-use Rattle.std.proofs.Common.{◌+◌, ◌/◌, length, refl, rules, eq-eqb, ne_eqb, le-leb}
+use Rattle.std.proofs.Common.{◌+◌, ◌/◌, length, refl, eq-eqb, ne_eqb, le-leb}
 use borrow.Author.Tests.{lt-leb}
 use Rattle.tree.specs.Blocks.{used_right}
 use Rattle.tree.proofs.blocks.used_right.Goals as goal

@@ -1,5 +1,5 @@
 -- `tree::fields::eval_right` meets its contract: the bound and its negation fit 32 bits, and the first test is the definition's turned round. Assumes nothing.
-use Rattle.std.proofs.Common.{◌≡◌, true, false, pos, ◌-ℤ◌, neg_ℤ, refl, arith, to_z-of_z, w32, SFits, to_z, rules}
+use Rattle.std.proofs.Common.{◌≡◌, true, false, pos, ◌-ℤ◌, neg_ℤ, refl, arith, to_z-of_z, w32, SFits, to_z}
 use lib.IntN.{+ℤ_idl}
 use lib.Signed.{le_z}
 use mir.Facts.{to_z_pos, sfits_widen}

@@ -1,12 +1,7 @@
 -- `tree::fields::fields_right` meets its contract. The loop's invariant: each node passed is right. Assumes nothing.
-use Rattle.std.proofs.Common.{◌≡◌, ◌-◌, ◌≤◌, Bool, true, ◌&&◌, ℤ, sym, ap, ◌∙◌, ap₂, arith, w16, to_z}
-use borrow.Author.Tests.{not-true, not-false}
-use Rattle.score.proofs.Bits.{back16}
-use Rattle.tree.specs.Blocks.{nodes_of}
+use Rattle.std.proofs.Common.{◌≡◌, ◌-◌, ◌≤◌, true}
 use Rattle.tree.specs.Pick.{all_below}
-use Rattle.tree.specs.Fields.{fields_ok, unused_right, fields_right}
-use Rattle.tree.proofs.Every.{every_none, every_more, every_all, every_fails}
-use Rattle.tree.proofs.Blocked.{length_least}
+use Rattle.tree.specs.Fields.{fields_ok}
 use Rattle.tree.proofs.fields.fields_right.Given as goal
 
 abbrev pub invariant-loop-k : goal.invariant-loop-k

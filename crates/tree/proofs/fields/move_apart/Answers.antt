@@ -1,7 +1,6 @@
 -- `tree::fields::move_apart` meets its contract. The loop's invariant: each child passed has another move. Assumes nothing.
-use Rattle.std.proofs.Common.{◌≡◌, ◌+◌, ◌-◌, ◌≤◌, true, arith}
-use Rattle.tree.specs.Pick.{all_below}
-use Rattle.tree.specs.Fields.{differ, apart}
+use Rattle.std.proofs.Common.{◌+◌, arith}
+use Rattle.tree.specs.Fields.{apart}
 use Rattle.tree.proofs.Fielded.{alike, unlike}
 use Rattle.tree.proofs.Every.{every_none, every_more, every_all, every_fails}
 use Rattle.tree.proofs.Blocked.{nodes_most, record_in}

@@ -1,10 +1,7 @@
 -- `tree::fields::move_apart` meets its contract. The loop's invariant: each child passed has another move. Assumes nothing.
-use Rattle.std.proofs.Common.{◌≡◌, ◌+◌, ◌-◌, ◌≤◌, true, arith}
+use Rattle.std.proofs.Common.{◌≡◌, ◌-◌, ◌≤◌, true}
 use Rattle.tree.specs.Pick.{all_below}
-use Rattle.tree.specs.Fields.{differ, apart}
-use Rattle.tree.proofs.Fielded.{alike, unlike}
-use Rattle.tree.proofs.Every.{every_none, every_more, every_all, every_fails}
-use Rattle.tree.proofs.Blocked.{nodes_most, record_in}
+use Rattle.tree.specs.Fields.{differ}
 use Rattle.tree.proofs.fields.move_apart.Given as goal
 
 abbrev pub invariant-loop-j : goal.invariant-loop-j

@@ -1,5 +1,5 @@
 -- `tree::fields::move_right` meets its contract. Assumes nothing.
-use Rattle.std.proofs.Common.{rules, eq-eqb, ne_eqb}
+use Rattle.std.proofs.Common.{eq-eqb, ne_eqb}
 use Rattle.tree.specs.Fields.{move_right}
 use Rattle.tree.proofs.fields.move_right.Goals as goal
 

@@ -1,5 +1,5 @@
 -- `tree::fields::node_right` meets its contract: each return rewrites with the tests that led there. Assumes nothing.
-use Rattle.std.proofs.Common.{◌≡◌, true, ltb, ℤ, sym, refl, ◌∙◌, ap₂, rules, le-ltb, lt-ltb}
+use Rattle.std.proofs.Common.{◌≡◌, true, ltb, ℤ, sym, refl, ◌∙◌, ap₂, le-ltb, lt-ltb}
 use borrow.Author.Tests.{not-true, not-false}
 use Rattle.score.proofs.Bits.{back16, through}
 use Rattle.record.specs.Node.{flags_of, eval_of}

@@ -1,11 +1,7 @@
 -- `tree::fields::siblings_right` meets its contract. The loop's invariant: each child passed has another move than those before it. Assumes nothing.
-use Rattle.std.proofs.Common.{◌≡◌, ◌-◌, ◌≤◌, true, sym, ◌∙◌, arith}
-use borrow.Author.Tests.{not-true, not-false}
+use Rattle.std.proofs.Common.{◌≡◌, ◌-◌, ◌≤◌, true}
 use Rattle.tree.specs.Pick.{all_below}
-use Rattle.tree.specs.Fields.{apart, siblings_right}
-use Rattle.tree.proofs.Every.{every_none, every_more, every_all, every_fails}
-use Rattle.tree.proofs.Blocked.{record_in}
-use Rattle.tree.proofs.Laid.{kid_in}
+use Rattle.tree.specs.Fields.{apart}
 use Rattle.tree.proofs.fields.siblings_right.Given as goal
 
 abbrev pub invariant-loop-i : goal.invariant-loop-i

@@ -1,5 +1,5 @@
 -- `tree::layout::children_right` meets its contract: each return rewrites with the tests that led there. Assumes nothing.
-use Rattle.std.proofs.Common.{refl, rules, le-ltb, lt-ltb, eq-eqb, ne_eqb, le-leb}
+use Rattle.std.proofs.Common.{refl, le-ltb, lt-ltb, eq-eqb, ne_eqb, le-leb}
 use borrow.Author.Tests.{lt-leb}
 use Rattle.tree.specs.Layout.{children_right}
 use Rattle.tree.proofs.layout.children_right.Goals as goal

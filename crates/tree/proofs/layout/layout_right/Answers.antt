@@ -1,7 +1,6 @@
 -- `tree::layout::layout_right` meets its contract. The loop's invariant: each node passed is right, and the start is the definition's, at most 63 for each of them. Assumes nothing.
-use Rattle.std.proofs.Common.{◌≡◌, ◌+◌, ◌-◌, ◌*◌, ◌≤◌, Bool, true, ◌&&◌, eqb, sym, refl, ap, ◌∙◌, arith}
+use Rattle.std.proofs.Common.{◌≡◌, ◌≤◌, Bool, true, ◌&&◌, eqb, sym, refl, ap, ◌∙◌, arith}
 use borrow.Author.Tests.{not-true, not-false}
-use Rattle.tree.specs.Pick.{all_below}
 use Rattle.tree.specs.Blocks.{nodes_of}
 use Rattle.tree.specs.Layout.{start_of, children_right, layout_right}
 use Rattle.tree.proofs.Every.{every_none, every_more, every_all, every_fails}

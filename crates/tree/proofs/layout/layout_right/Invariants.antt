@@ -1,12 +1,7 @@
 -- `tree::layout::layout_right` meets its contract. The loop's invariant: each node passed is right, and the start is the definition's, at most 63 for each of them. Assumes nothing.
-use Rattle.std.proofs.Common.{◌≡◌, ◌+◌, ◌-◌, ◌*◌, ◌≤◌, Bool, true, ◌&&◌, eqb, sym, refl, ap, ◌∙◌, arith}
-use borrow.Author.Tests.{not-true, not-false}
+use Rattle.std.proofs.Common.{◌≡◌, ◌+◌, ◌-◌, ◌*◌, ◌≤◌, true}
 use Rattle.tree.specs.Pick.{all_below}
-use Rattle.tree.specs.Blocks.{nodes_of}
-use Rattle.tree.specs.Layout.{start_of, children_right, layout_right}
-use Rattle.tree.proofs.Every.{every_none, every_more, every_all, every_fails}
-use Rattle.tree.proofs.Blocked.{length_least, nodes_most, record_in}
-use Rattle.tree.proofs.Laid.{start_none, start_more, count_most}
+use Rattle.tree.specs.Layout.{start_of, children_right}
 use Rattle.tree.proofs.layout.layout_right.Given as goal
 
 abbrev pub invariant-loop-k : goal.invariant-loop-k

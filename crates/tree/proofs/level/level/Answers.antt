@@ -1,5 +1,5 @@
 -- `tree::level::level` meets its contract. The loop's invariant: where level l and the next begin, and how many of the first l begin at the node or before it. Assumes nothing.
-use Rattle.std.proofs.Common.{◌≡◌, ℕ, ◌+◌, ◌-◌, ◌<◌, ◌≤◌, sym, ap, ◌∙◌, ⊎_elim, arith}
+use Rattle.std.proofs.Common.{◌≡◌, ℕ, ◌+◌, ◌<◌, ◌≤◌, sym, ap, ◌∙◌, arith}
 use Rattle.tree.specs.Layout.{start_of}
 use Rattle.tree.specs.Level.{edge, level_in}
 use Rattle.tree.proofs.Levels.{edge_none, edge_one, edge_more, edge_in, edge_step, level_none, level_up, level_stay}
@@ -24,14 +24,14 @@ pub loop-l-preserved : goal.loop-l-preserved
 loop-l-preserved c =
     let t = c.args.tree.now in
     let i = c.loop-l.invariant in
-    let n = c.loop-l.l in
-    (
+    let n = c.loop-l.l in (
       omega arith,
       i.2,
       c.start_from-after.ensures ∙ ap (start_of t) i.2 ∙ sym (edge_more t (n + 1)),
       elim c.if-next-node.branch [
-        then-next-node w ↦ let h : edge t (n + 1) ≤ c.args.node = omega (arith, w.if-next-node.true, i.2) in omega (arith, w.level-is, i.3, level_up t n c.args.node h)
-        | else-next-node w ↦ let h : c.args.node < edge t (n + 1) = omega (arith, w.if-next-node.false, i.2) in omega (arith, w.level-is, i.3, level_stay t n c.args.node h) ],
+        | then-next-node w ↦ let h : edge t (n + 1) ≤ c.args.node = omega (arith, w.if-next-node.true, i.2) in omega (arith, w.level-is, i.3, level_up t n c.args.node h)
+        | else-next-node w ↦ let h : c.args.node < edge t (n + 1) = omega (arith, w.if-next-node.false, i.2) in omega (arith, w.level-is, i.3, level_stay t n c.args.node h)
+      ],
       elim c.if-next-node.branch [ then-next-node w ↦ omega (arith, w.level-is, i.4) | else-next-node w ↦ omega (arith, w.level-is, i.4) ],
     )
 

@@ -1,8 +1,6 @@
 -- `tree::level::level` meets its contract. The loop's invariant: where level l and the next begin, and how many of the first l begin at the node or before it. Assumes nothing.
-use Rattle.std.proofs.Common.{◌≡◌, ℕ, ◌+◌, ◌-◌, ◌<◌, ◌≤◌, sym, ap, ◌∙◌, ⊎_elim, arith}
-use Rattle.tree.specs.Layout.{start_of}
+use Rattle.std.proofs.Common.{◌≡◌, ◌+◌, ◌-◌, ◌≤◌}
 use Rattle.tree.specs.Level.{edge, level_in}
-use Rattle.tree.proofs.Levels.{edge_none, edge_one, edge_more, edge_in, edge_step, level_none, level_up, level_stay}
 use Rattle.tree.proofs.level.level.Given as goal
 
 abbrev pub invariant-loop-l : goal.invariant-loop-l

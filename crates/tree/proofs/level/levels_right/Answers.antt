@@ -1,5 +1,5 @@
 -- `tree::level::levels_right` meets its contract. The loop's invariant: where level l and the next begin. Assumes nothing.
-use Rattle.std.proofs.Common.{◌≡◌, ◌+◌, ◌-◌, ◌≤◌, eqb, sym, ap, ◌∙◌, ap₂, arith}
+use Rattle.std.proofs.Common.{◌≡◌, ◌+◌, eqb, sym, ap, ◌∙◌, ap₂, arith}
 use Rattle.tree.specs.Layout.{start_of}
 use Rattle.tree.specs.Level.{edge, levels_right}
 use Rattle.tree.proofs.Blocked.{length_least}

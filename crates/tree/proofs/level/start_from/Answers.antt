@@ -1,5 +1,5 @@
 -- `tree::level::start_from` meets its contract. The loop's invariant: the sum is where the children of node k begin. Assumes nothing.
-use Rattle.std.proofs.Common.{◌≡◌, ◌+◌, ◌-◌, ◌≤◌, ap, ◌∙◌, arith}
+use Rattle.std.proofs.Common.{◌≡◌, ◌+◌, ap, ◌∙◌, arith}
 use Rattle.tree.specs.Layout.{start_of}
 use Rattle.tree.proofs.Blocked.{nodes_most, record_in}
 use Rattle.tree.proofs.Laid.{start_more, start_in}

@@ -1,8 +1,6 @@
 -- `tree::level::start_from` meets its contract. The loop's invariant: the sum is where the children of node k begin. Assumes nothing.
-use Rattle.std.proofs.Common.{◌≡◌, ◌+◌, ◌-◌, ◌≤◌, ap, ◌∙◌, arith}
+use Rattle.std.proofs.Common.{◌≡◌, ◌-◌, ◌≤◌}
 use Rattle.tree.specs.Layout.{start_of}
-use Rattle.tree.proofs.Blocked.{nodes_most, record_in}
-use Rattle.tree.proofs.Laid.{start_more, start_in}
 use Rattle.tree.proofs.level.start_from.Given as goal
 
 abbrev pub invariant-loop-k : goal.invariant-loop-k

@@ -1,7 +1,6 @@
 -- `turn::prune::late` meets its contract: its tests in order. Assumes nothing.
 use mathlib.Core.Path.{sym, ◌∙◌}
 use native.Mathlib.Omega.{arith}
-use borrow.Author.Rules.{rules}
 use borrow.Author.Tests.{not-true, not-false}
 use Rattle.tree.proofs.Blocked.{record_in}
 use Rattle.turn.proofs.Tested.{late_off, late_noisy, late_shallow, late_last}

@@ -1,7 +1,6 @@
 -- `turn::prune::reduction` meets its contract: whether the move is late picks. Assumes nothing.
 use mathlib.Core.Path.{sym, ◌∙◌}
 use native.Mathlib.Omega.{arith}
-use borrow.Author.Rules.{rules}
 use borrow.Author.Tests.{not-true, not-false}
 use Rattle.tree.proofs.Blocked.{record_in}
 use Rattle.turn.specs.Prune.{reduction_if}

@@ -1,6 +1,5 @@
 -- `percentages::occupancy::Counts::add` meets its contract: each arm counts its bound. Assumes nothing.
 use mathlib.Core.Path.{sym, ap}
-use borrow.Author.Rules.{rules}
 use Rattle.percentages.specs.Occupancy.{more}
 use Rattle.percentages.proofs.occupancy.Counts.add.Goals as goal
 
