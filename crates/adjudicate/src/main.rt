@@ -2,9 +2,10 @@
 #![tactic(auto)]
 
 ghost use Rattle.std.specs.Prelude.{◌≡◌, length};
-ghost use Rattle.adjudicate.specs.Input.{step_of, Taken};
+ghost use Rattle.adjudicate.specs.Input.{step_of, Taken, TakenFirst};
 
-use libc::STDIN_FILENO;
+use std::io;
+use std::io::Read;
 
 // What one read came to: bytes, the input's end, or a failure.
 #[derive(Clone, Copy)]
@@ -22,25 +23,24 @@ enum Input {
 }
 
 // What a read's answer says, where it was to fill a part: a failure is not taken for the end.
-fn outcome(got: isize, part: &[u8]) -> Step
+fn outcome(got: io::Result<usize>, part: &[u8]) -> Step
     ensures { result ≡ step_of got (length part.now) }
 {
-    if got > 0 {
-        return Step::More(io::count(got, part));
+    match got {
+        Ok(0) => Step::End,
+        Ok(n) => Step::More(n.min(part.len())),
+        Err(_) => Step::Failed,
     }
-    if got < 0 {
-        return Step::Failed;
-    }
-    Step::End
 }
 
 // Reads until the input ends or buf is full.
-fn read_tree(buf: &mut [u8]) -> Input
-    ensures { Taken result buf.new }
+fn read_tree<R: Read>(from: &mut R, buf: &mut [u8]) -> Input
+    ensures taken { Taken result buf.new }
+    ensures first { TakenFirst (R.remaining from.old) (R.remaining from.new) result buf.new }
 {
     let mut done = 0;
     while done < buf.len() {
-        let got = libc::read(STDIN_FILENO, &mut buf[done..]);
+        let got = from.read(&mut buf[done..]);
         match outcome(got, &buf[done..]) {
             Step::More(n) => {
                 done += n;
@@ -57,14 +57,13 @@ fn read_tree(buf: &mut [u8]) -> Input
 }
 
 // One byte more than the longest tree: an input that fills it has a length that is refused, and is never cut to a good one.
-fn main() {
+fn main(rt: HostRuntime) -> io::Result<()> {
     let mut buf = [0u8; 65537];
-    match read_tree(&mut buf) {
+    match read_tree(&mut rt.reader(), &mut buf) {
         Input::Bytes(n) => {
-            program::print(&buf[..n]);
+            program::print(&mut io::writer(&rt), &buf[..n]);
+            Ok(())
         }
-        Input::Failed => {
-            os::fail(b"standard input");
-        }
+        Input::Failed => Err(io::Error::other("standard input can't be read")),
     }
 }

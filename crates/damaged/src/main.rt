@@ -2,34 +2,56 @@
 // and prints a line for each: its number from 0, and the line that the program answers it with.
 #![tactic(auto)]
 
-use libc::{STDIN_FILENO, STDOUT_FILENO};
+ghost use Rattle.std.specs.Prelude.{◌≤◌, length};
+
+use std::io;
+use std::io::{Read, Write};
+
+// Reads until buf is full, the input ends or a read fails; how many bytes it put at the start of buf.
+fn read_full<R: Read>(from: &mut R, buf: &mut [u8]) -> usize
+    ensures { result ≤ length buf.new }
+{
+    let mut done = 0;
+    while done < buf.len() {
+        match from.read(&mut buf[done..]) {
+            Ok(0) => break,
+            Ok(n) => done += n,
+            Err(_) => break,
+        }
+    }
+    done
+}
 
 // The line that ends a run whose input is cut short, or announces a longer tree than the buffer holds.
-fn bad_input() -> bool {
-    io::write_all(STDOUT_FILENO, b"bad input\n");
+fn bad_input<W: Write>(to: &mut W) -> bool {
+    let _ = to.write_all(b"bad input\n");
     false
 }
 
 // False where the line can't be written.
-fn numbered(number: u64, tree: &[u8]) -> bool {
-    io::print_decimal(STDOUT_FILENO, number);
-    io::write_all(STDOUT_FILENO, b" ");
-    program::print(tree)
+fn numbered<W: Write>(to: &mut W, number: u64, tree: &[u8]) -> bool {
+    write!(to, "{number} ").is_ok() && program::print(to, tree)
 }
 
 // Fills the part that a tree takes, and answers; false where the run ends.
-fn answer(tree: &mut [u8], number: u64) -> bool {
-    if io::read_full(STDIN_FILENO, tree) != tree.len() {
-        return bad_input();
+fn answer<R: Read, W: Write>(from: &mut R, to: &mut W, tree: &mut [u8], number: u64) -> bool {
+    if read_full(from, tree) != tree.len() {
+        return bad_input(to);
     }
-    numbered(number, tree)
+    numbered(to, number, tree)
 }
 
-fn body(buf: &mut [u8], length: usize, number: u64) -> bool {
+fn body<R: Read, W: Write>(
+    from: &mut R,
+    to: &mut W,
+    buf: &mut [u8],
+    length: usize,
+    number: u64,
+) -> bool {
     if length > buf.len() {
-        return bad_input();
+        return bad_input(to);
     }
-    answer(&mut buf[..length], number)
+    answer(from, to, &mut buf[..length], number)
 }
 
 fn length_of(head: &[u8; 4]) -> usize {
@@ -37,30 +59,30 @@ fn length_of(head: &[u8; 4]) -> usize {
 }
 
 // One tree; false where the run ends.
-fn request(buf: &mut [u8], number: u64) -> bool {
+fn request<R: Read, W: Write>(from: &mut R, to: &mut W, buf: &mut [u8], number: u64) -> bool {
     let mut head = [0u8; 4];
-    let got = io::read_full(STDIN_FILENO, &mut head);
+    let got = read_full(from, &mut head);
     if got == 0 {
         return false;
     }
     if got < 4 {
-        return bad_input();
+        return bad_input(to);
     }
-    body(buf, length_of(&head), number)
+    body(from, to, buf, length_of(&head), number)
 }
 
 // Nothing says that the input ends, so the loop ends at a number that no run reaches.
-fn requests(buf: &mut [u8]) {
+fn requests<R: Read, W: Write>(from: &mut R, to: &mut W, buf: &mut [u8]) {
     let mut number = 0;
     while number < u64::MAX {
-        if !request(buf, number) {
+        if !request(from, to, buf, number) {
             return;
         }
         number += 1;
     }
 }
 
-fn main() {
+fn main(rt: HostRuntime) {
     let mut buf = [0u8; 66048];
-    requests(&mut buf);
+    requests(&mut rt.reader(), &mut io::writer(&rt), &mut buf);
 }

@@ -2,13 +2,15 @@
 #![tactic(auto)]
 
 ghost use Rattle.std.specs.Prelude.{◌≡◌, take};
+ghost use Rattle.std.specs.Bool.{OnTrue};
+ghost use Rattle.std.specs.Io.KnownBytes.{Appends};
 ghost use Rattle.io.specs.Counts.{IsPrefixLen};
 ghost use Rattle.program.specs.Program.{program_settings, fresh_stats, program_entry, program_line};
 
 use desk::root_search;
-use libc::STDOUT_FILENO;
 use results::RootResult;
 use state::Settings;
+use std::io::Write;
 use table::Stats;
 
 pub fn settings() -> Settings
@@ -59,10 +61,12 @@ pub fn answer(tree: &[u8], out: &mut [u8; 160]) -> usize
     text::line(search(tree), out)
 }
 
-// Writes the answer to standard output; false where it can't be written. It has no statement of what is written: the contract
-// of a write can say how many bytes it took, and not which.
-pub fn print(tree: &[u8]) -> bool {
+// Writes the answer to a writer, as standard output; false where it can't be written. Of a writer whose bytes are known, true
+// says that it has the line behind what it had.
+pub fn print<W: Write>(to: &mut W, tree: &[u8]) -> bool
+    ensures { OnTrue result (Appends (W.contents to.old) (W.contents to.new) (program_line tree.now)) }
+{
     let mut out = [0u8; 160];
     let n = answer(tree, &mut out);
-    io::write_all(STDOUT_FILENO, &out[..n])
+    to.write_all(&out[..n]).is_ok()
 }

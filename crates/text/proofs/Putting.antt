@@ -4,21 +4,20 @@ use mathlib.Core.List.{List, ◌++◌, append_assoc}
 use Prim.Native.Nat.{ℕ, zero, suc, ◌+◌, ◌≤◌}
 use native.Mathlib.Omega.{arith}
 use lib.ListN.{length, take, length-append}
-use lib.Seq.{take_at, take-length, length-take-le}
+use lib.Seq.{take_at, length-take-le}
 use Rattle.results.specs.declared.RootResult.{RootResult}
 use Rattle.text.specs.Text.{answer_line, refused_line, line_by, line_of, Put}
 
 -- the part from `at` on, after a copy of the word to its start
-pub put_part : (before word rest part post : List ℕ) (at n : ℕ) → at ≤ length before → n ≡ length word → part ≡ take (length word) word ++ rest
+pub put_part : (before word rest part post : List ℕ) (at n : ℕ) → at ≤ length before → n ≡ length word → part ≡ word ++ rest
     → Put before at word (take at before ++ (part ++ post)) (at + n)
 put_part before word rest part post at n l e p =
     record {
       place = omega arith;
       bytes =
-          let q : part ≡ word ++ rest = p ∙ ap (λ (w : List ℕ). w ++ rest) (take-length word) in
           let g : take at before ++ ((word ++ rest) ++ post) ≡ (take at before ++ word) ++ (rest ++ post) = simp append_assoc in
           let m : length (take at before ++ word) ≡ at + n = length-append (take at before) word ∙ omega (arith, length-take-le at before l) in
-          ap (λ (x : List ℕ). take (at + n) (take at before ++ (x ++ post))) q ∙ ap (take (at + n)) g ∙ take_at (take at before ++ word) (rest ++ post) (at + n) m;
+          ap (λ (x : List ℕ). take (at + n) (take at before ++ (x ++ post))) p ∙ ap (take (at + n)) g ∙ take_at (take at before ++ word) (rest ++ post) (at + n) m;
     }
 
 -- a text behind a text

@@ -1,17 +1,27 @@
 // The text of the line: each function puts bytes into a buffer from a place on, and answers the place behind them.
 #![tactic(auto)]
 
-ghost use Rattle.std.specs.Prelude.{◌≡◌, ◌++◌, ◌+◌, ◌≤◌, length, take};
+ghost use Rattle.std.specs.Prelude.{◌≡◌, ◌++◌, ◌+◌, ◌≤◌, length, take, drop};
 ghost use Rattle.io.specs.Counts.{IsPrefixLen};
 ghost use Rattle.text.specs.Text.{decimal, signed, mark_of, found_text, spent_text, answer_line, refused_line, line_of, Put};
 
 use results::RootResult;
 
+// Copies the word to the start of the part; how many bytes it has.
+fn copy(word: &[u8], part: &mut [u8]) -> usize
+    requires { length word.now ≤ length part.old }
+    ensures count { result ≡ length word.now }
+    ensures copied { part.new ≡ word.now ++ drop (length word.now) part.old }
+{
+    part[..word.len()].copy_from_slice(word);
+    word.len()
+}
+
 fn put(out: &mut [u8], at: usize, word: &[u8]) -> usize
     requires { at + length word.now ≤ length out.old }
     ensures { Put out.old at word.now out.new result }
 {
-    at + bytes::copy(word, &mut out[at..])
+    at + copy(word, &mut out[at..])
 }
 
 fn put_number(out: &mut [u8], at: usize, n: u64) -> usize
