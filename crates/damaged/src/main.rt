@@ -30,7 +30,8 @@ fn bad_input<W: Write>(to: &mut W) -> bool {
 
 // False where the line can't be written.
 fn numbered<W: Write>(to: &mut W, number: u64, tree: &[u8]) -> bool {
-    write!(to, "{number} ").is_ok() && program::print(to, tree)
+    let _ = write!(to, "{number} ");
+    program::print(to, tree)
 }
 
 // Fills the part that a tree takes, and answers; false where the run ends.
