@@ -27,6 +27,7 @@ fn max_ply_right(ply: u16) -> bool
     ply <= 128
 }
 
+#[tactic(auto, unfolding(crate::specs::Rows::limit_right))]
 fn limit_right(limit: u64) -> bool
     ensures { result ≡ limit_right limit }
 {
