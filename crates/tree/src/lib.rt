@@ -10,6 +10,7 @@ pub mod layout; // layout.rt: row 3
 pub mod level; // level.rt: row 5, and a node's level
 
 // The number of the first of the refusals 1 to 5 that the tree gets, 0 where it is accepted.
+#[tactic(auto, unfolding(crate::specs::Refusal::tree_refusal))]
 pub fn check(tree: &[u8], inf: i16, max_ply: u16) -> u8
     ensures { result ≡ tree_refusal inf max_ply tree.now }
 {
