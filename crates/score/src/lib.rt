@@ -53,13 +53,6 @@ pub fn of_bits16(b: u16) -> i16
     b.cast_signed()
 }
 
-// The 8 bits of d, as a word holds them.
-pub fn bits8(d: i8) -> u8
-    ensures { result ≡ bits_of w8 d }
-{
-    d.cast_unsigned()
-}
-
 // The signed number that 8 bits hold.
 pub fn of_bits8(byte: u8) -> i8
     ensures { result ≡ signed_of w8 byte }
