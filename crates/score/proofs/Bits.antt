@@ -1,21 +1,17 @@
 -- Two's complement at any width: the bits of a number below zero, the number that high bits hold, and both ways there and back. Assumes nothing.
 use mathlib.Core.Path.{◌≡◌, refl, sym, ap, ◌∙◌, subst}
-use mathlib.Core.Bool.{Bool, true, false, not}
+use mathlib.Core.Bool.{Bool, true, false}
 use Prim.Native.Nat.{ℕ, suc, ◌-◌, ◌^◌, ◌<◌, ◌≤◌}
 use native.Mathlib.Omega.{arith}
-use lib.Dec.{T, ltb, eqb}
-use lib.IntN.{ℤ, pos, negsuc, nat_abs}
-use lib.Signed.{mag, lt_z}
+use lib.Dec.{ltb, eqb}
+use lib.IntN.{ℤ, pos, negsuc}
+use lib.Signed.{mag}
 use mir.Syntax.{Width, w16}
 use mir.Val.{SFits, to_z, of_z, sel, bits, hbits}
 use mir.Facts.{to_z-of_z, to_z_pos}
 use borrow.Author.Tests.{le-ltb, eqb-true, eqb-false, eq-eqb, ne_eqb, ltb-true, ltb-false}
 use Rattle.score.specs.Wrap.{eq_z}
 use Rattle.score.specs.Bits.{bits_of, signed_of}
-
-pub not_neg : (z : ℤ) → T (not (lt_z z (pos 0))) → z ≡ pos (nat_abs z)
-not_neg (pos n) t = refl
-not_neg (negsuc n) t = absurd t
 
 pub to_z_big : (w : Width) (n : ℕ) → 2 ^ hbits w ≤ n → to_z w n ≡ negsuc (2 ^ bits w - suc n)
 to_z_big w n h = ap (λ (t : Bool). sel t (pos n) (negsuc (2 ^ bits w - suc n))) (le-ltb n (2 ^ hbits w) h)
