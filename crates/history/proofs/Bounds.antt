@@ -2,12 +2,12 @@
 use mathlib.Core.Path.{◌≡◌, refl, ap, ap₂, ◌∙◌, subst}
 use mathlib.Core.Bool.{Bool, true, false}
 use Prim.Native.Nat.{ℕ, zero, suc, ◌+◌, ◌-◌, ◌*◌, ◌/◌, ◌<◌, ◌≤◌}
-use native.Mathlib.Nat.{mul-le-mul, zero-mul, zero-add, mul_comm, mul-le-mul_left, mul-le-mul_right, mul-add, div-le_of_le-mul, le-div_iff_mul-le}
+use native.Mathlib.Nat.{mul-le-mul, zero-mul, mul_comm, mul-le-mul_left, mul-le-mul_right, mul-add, div-le_of_le-mul, le-div_iff_mul-le}
 use native.Mathlib.Omega.{arith}
 use borrow.Author.Tests.{leb-true, leb-false}
-use lib.Dec.{T, leb, ltb→lt}
-use lib.IntN.{ℤ, pos, negsuc, neg_ℤ, nat_abs, sub_ℕ, ◌+ℤ◌, ◌-ℤ◌, ◌*ℤ◌}
-use lib.Signed.{mag, nat_abs-le, quot_z, lt_z}
+use lib.Dec.{leb}
+use lib.IntN.{ℤ, pos, negsuc, neg_ℤ, nat_abs, sub_ℕ, ◌+ℤ◌, ◌*ℤ◌}
+use lib.Signed.{nat_abs-le, quot_z}
 use mir.Syntax.{w16, w32}
 use mir.Val.{SFits}
 use Rattle.score.proofs.Diff.{diff_neg, diff_add, diff_abs, pos_diff, up, dn, as_diff, abs_mul, abs_add, fits_abs, quot_neg}
@@ -111,20 +111,5 @@ module _ (hh : ℕ) (old v : ℤ) (f : SFits w16 old) (u : hh < 65536) (hv : nat
   new-abs : nat_abs (new_of hh old v) < 65536
   new-abs = omega (arith, old-size, new_far hh old v (omega arith))
 
-  pub new_mag : mag (new_of hh old v) < 65536
-  new_mag = omega (arith, mag-le (new_of hh old v), new-abs)
-    where
-      mag-le : (z : ℤ) → mag z ≤ nat_abs z
-      mag-le (pos n) = omega arith
-      mag-le (negsuc n) = omega arith
-
   pub new32 : SFits w32 (new_of hh old v)
   new32 = fits_abs w32 (new_of hh old v) (omega (arith, new-abs))
-
--- |v|, by the sign
-pub minus : (z : ℤ) → T (lt_z z (pos 0)) → pos 0 -ℤ z ≡ pos (nat_abs z)
-minus (pos n) t = absurd (no (ltb→lt n 0 t))
-  where
-    no : n < 0 → ⊥
-    no l = omega arith
-minus (negsuc n) t = ap pos (zero-add (suc n))

@@ -1,14 +1,14 @@
 -- Delta: each number on the way to it fits 32 bits, what it is held to, and that it is at most a quarter of HH_MAX. Assumes nothing.
-use mathlib.Core.Path.{◌≡◌, refl, sym}
-use mathlib.Core.Bool.{not}
+use mathlib.Core.Path.{◌≡◌, refl}
 use Prim.Native.Nat.{ℕ, ◌/◌, ◌<◌, ◌≤◌}
-use native.Mathlib.Nat.{mul-le-mul, min-eq_left, min-eq_right, le_of_lt}
+use native.Mathlib.Nat.{mul-le-mul}
 use native.Mathlib.Omega.{arith}
-use lib.Dec.{T, ltb→lt, nltb→le}
 use lib.IntN.{ℤ, pos, negsuc, neg_ℤ, nat_abs, ◌+ℤ◌, ◌-ℤ◌, ◌*ℤ◌}
-use lib.Signed.{nat_abs-le, lt_z, non_neg}
+use lib.Signed.{nat_abs-le}
 use mir.Syntax.{w8, w16, w32}
 use mir.Val.{SFits}
+use Rattle.std.specs.Int.{int_max, int_min}
+use Rattle.std.proofs.lemmas.Int.{ints, clamps}
 use Rattle.score.proofs.Diff.{abs_neg, abs_mul, abs_add, fits_abs}
 use Rattle.history.specs.Gravity.{curve, held, delta_of}
 
@@ -42,30 +42,11 @@ module _ (d : ℤ) (f : SFits w8 d) where
       fits_abs w32 (pos 16 *ℤ d *ℤ d +ℤ pos 128 *ℤ d -ℤ pos 256)
       (omega (arith, sum, abs_add (pos 16 *ℤ d *ℤ d +ℤ pos 128 *ℤ d) (negsuc 255)))
 
--- held to a range: below it, inside, above
-pub held_low : (z : ℤ) (most : ℕ) → T (lt_z z (pos 0)) → 0 ≡ held z most
+-- the library's clamp is what holds it to a range
+pub clamped : (z : ℤ) (most : ℕ) → int_max (pos 0) (int_min z (pos most)) ≡ pos (held z most)
 unfolding held
-held_low (pos n) most t = absurd (no (ltb→lt n 0 t))
-  where
-    no : n < 0 → ⊥
-    no l = omega arith
-held_low (negsuc n) most t = refl
-
-pub record Inside (z : ℤ) (most : ℕ) : Type 0 where
-  pub sign : T (non_neg z)
-  pub below : nat_abs z < most
-  pub same : nat_abs z ≡ held z most
-
-pub held_mid : (z : ℤ) (most : ℕ) → T (not (lt_z z (pos 0))) → T (lt_z z (pos most)) → Inside z most
-unfolding held
-held_mid (pos n) most t u =
-    record { sign = tt; below = ltb→lt n most u; same = sym (min-eq_left (le_of_lt (ltb→lt n most u))) }
-held_mid (negsuc n) most t u = absurd t
-
-pub held_high : (z : ℤ) (most : ℕ) → T (not (lt_z z (pos 0))) → T (not (lt_z z (pos most))) → most ≡ held z most
-unfolding held
-held_high (pos n) most t u = sym (min-eq_right (nltb→le n most u))
-held_high (negsuc n) most t u = absurd t
+clamped (pos n) most = omega (arith, ints, clamps)
+clamped (negsuc n) most = refl
 
 held_le : (z : ℤ) (most : ℕ) → held z most ≤ most
 unfolding held

@@ -1,16 +1,14 @@
--- The test of the entries: a turn of its loop, and that it says yes exactly when every entry lies within plus and minus HH_MAX. Assumes nothing.
-use mathlib.Core.Path.{◌≡◌, refl, sym, ap, ◌∙◌}
+-- The test of the entries: the code's, and that it says yes exactly when every entry lies within plus and minus HH_MAX. Assumes nothing.
+use mathlib.Core.Path.{◌≡◌, refl, ap, ◌∙◌}
 use mathlib.Core.Bool.{Bool, true, false, ◌&&◌, true≢false}
 use mathlib.Core.List.{List, [], ◌∷◌}
-use Prim.Native.Nat.{ℕ, zero, suc, ◌+◌, ◌<◌, ◌≤◌}
+use Prim.Native.Nat.{ℕ, zero, suc, ◌<◌, ◌≤◌}
 use native.Mathlib.Nat.{not-suc-le-zero, le_of_suc-le-suc}
-use native.Mathlib.Numerals.{add-one}
 use native.Mathlib.Omega.{arith}
-use borrow.Author.Tests.{le-leb, lt-leb, leb-false}
+use borrow.Author.Tests.{le-leb, leb-false}
 use lib.Dec.{T, leb, leb→le}
 use lib.IntN.{ℤ, pos, nat_abs}
-use lib.ListN.{length, get_or, drop}
-use lib.Seq.{drop-cons, drop-length}
+use lib.ListN.{length, get_or}
 use mir.Facts.{and_yes}
 use Rattle.score.proofs.Cases.{holds}
 use Rattle.history.specs.Entries.{within_of}
@@ -18,21 +16,6 @@ use Rattle.history.specs.Entries.{within_of}
 -- every entry lies within plus and minus a bound
 abbrev pub AllIn : ℕ → List ℤ → Type 0
 AllIn hh h = (i : ℕ) → i < length h → nat_abs (get_or h i (pos 0)) ≤ hh
-
--- the test of what is left from an entry on begins with that entry
-turn : (hh : ℕ) (h : List ℤ) (i : ℕ) → i < length h → within_of hh (drop i h) ≡ (leb (nat_abs (get_or h i (pos 0))) hh && within_of hh (drop (i + 1) h))
-unfolding within_of
-turn hh h i l = ap (within_of hh) (drop-cons h i (pos 0) l) ∙ rw add-one refl
-
-pub inside : (hh : ℕ) (h : List ℤ) (i : ℕ) → i < length h → nat_abs (get_or h i (pos 0)) ≤ hh → within_of hh (drop (i + 1) h) ≡ within_of hh (drop i h)
-inside hh h i l k = sym (turn hh h i l ∙ ap (λ (b : Bool). b && within_of hh (drop (i + 1) h)) (le-leb (nat_abs (get_or h i (pos 0))) hh k))
-
-pub outside : (hh : ℕ) (h : List ℤ) (i : ℕ) → i < length h → hh < nat_abs (get_or h i (pos 0)) → within_of hh (drop i h) ≡ false
-outside hh h i l k = turn hh h i l ∙ ap (λ (b : Bool). b && within_of hh (drop (i + 1) h)) (lt-leb (nat_abs (get_or h i (pos 0))) hh k)
-
-pub none_left : (hh : ℕ) (h : List ℤ) → within_of hh (drop (length h) h) ≡ true
-unfolding within_of
-none_left hh h = ap (within_of hh) (drop-length h)
 
 -- what the test means, both ways: row 9 of 01's refusals is not given exactly when every entry lies within
 all_in : (hh : ℕ) (h : List ℤ) → T (within_of hh h) → AllIn hh h

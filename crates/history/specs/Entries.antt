@@ -1,5 +1,6 @@
 -- History: 8,192 lent entries, the place of a move among them, and what each operation leaves. Assumes nothing.
-use Rattle.std.specs.Prelude.{Bool, true, ◌&&◌, List, [], ◌∷◌, ℕ, ◌+◌, ◌*◌, ◌/◌, ◌%◌, leb, ℤ, pos, neg_ℤ, nat_abs, length, get_or, set, replicate}
+use Rattle.std.specs.Prelude.{Bool, List, ℕ, ◌+◌, ◌*◌, ◌/◌, ◌%◌, leb, ℤ, pos, neg_ℤ, nat_abs, length, get_or, set, replicate}
+use Rattle.std.specs.List.{list_all}
 use Rattle.history.specs.Gravity.{delta_of, gravity_of}
 
 -- 01, The tree: "Move / 1024 is the from square"
@@ -32,5 +33,4 @@ clear_of h = replicate (length h) (pos 0)
 
 -- 01, Refusal numbers, 9, where it is not given: "a history entry beyond plus or minus HH_MAX"
 unfoldable pub within_of : ℕ → List ℤ → Bool
-within_of hh [] = true
-within_of hh (x ∷ h) = leb (nat_abs x) hh && within_of hh h
+within_of hh h = list_all (λ x. leb (nat_abs x) hh) h

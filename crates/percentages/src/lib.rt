@@ -9,6 +9,7 @@ pub mod occupancy; // occupancy.rt: the shares of the entries of each bound
 pub mod rates; // rates.rt: the rates of hits, misses and collisions
 
 // a / b, rounded once: of whole numbers that f64 holds.
+#[tactic(auto, using(crate::proofs::Division::quotient_is))]
 fn quotient(a: u64, b: u64) -> f64
     requires { (a ≤ 2 ^ 53) × ((0 < b) × (b ≤ 2 ^ 53)) }
     ensures { result ≡ round binary64 false a b }

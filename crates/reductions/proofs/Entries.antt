@@ -4,7 +4,7 @@ use mathlib.Core.Path.{◌≡◌, refl, subst}
 use mathlib.Core.Bool.{Bool, true, false, cond, ◌&&◌, ◌||◌}
 use Prim.Native.Nat.{ℕ, ◌+◌, ◌*◌, ◌/◌, ◌%◌, ◌<◌, ◌≤◌}
 use native.Mathlib.Omega.{arith}
-use lib.Dec.{T, leb, ltb, eqb, leb→le, ltb→lt, eqb→eq}
+use lib.Dec.{T, leb, eqb, leb→le, eqb→eq}
 use lib.ListN.{length, get_or, drop}
 use lib.Seq.{get_or-drop}
 use borrow.Author.Tests.{eq-eqb, ne_eqb}
@@ -41,14 +41,6 @@ next_along k h = at along reductions (drop 1 reductions) tt k (omega arith) (ome
 next_down : (k : ℕ) → k + 64 < 2048 → T (down k (get_or reductions k 0) (get_or (drop 64 reductions) k 0))
 unfolding reductions down
 next_down k h = at down reductions (drop 64 reductions) tt k (omega arith) (omega arith)
-
-unfoldable digit : ℕ → ℕ → ℕ → Bool
-digit k x y = ltb x 16
-
--- an entry is a hex digit
-pub entry_small : (k : ℕ) → k < 2048 → get_or reductions k 0 < 16
-unfolding reductions digit
-entry_small k h = ltb→lt (get_or reductions k 0) 16 (at digit reductions reductions tt k h h)
 
 pub row_zero : (m : ℕ) → m ≤ 63 → entry_of 0 m ≡ 0
 unfolding range edge

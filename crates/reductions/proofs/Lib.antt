@@ -1,4 +1,4 @@
 pub mod Pairs
 pub mod Entries
 pub mod Whole
-pub mod Digits
+pub mod Table

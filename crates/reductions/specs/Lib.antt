@@ -1,3 +1,2 @@
 pub mod Reductions
 pub mod Rules
-pub mod Packed

@@ -1,45 +1,17 @@
 -- Two's complement at any width: the bits of a number below zero, the number that high bits hold, and both ways there and back. Assumes nothing.
 use mathlib.Core.Path.{◌≡◌, refl, sym, ap, ◌∙◌, subst}
-use mathlib.Core.Bool.{Bool, true, false, not}
+use mathlib.Core.Bool.{Bool, true, false}
 use Prim.Native.Nat.{ℕ, suc, ◌-◌, ◌^◌, ◌<◌, ◌≤◌}
 use native.Mathlib.Omega.{arith}
-use lib.Dec.{T, ltb, ltb→lt}
-use lib.IntN.{ℤ, pos, negsuc, nat_abs, sub_ℕ, ◌+ℤ◌}
-use lib.Signed.{mag, lt_z}
+use lib.Dec.{ltb, eqb}
+use lib.IntN.{ℤ, pos, negsuc}
+use lib.Signed.{mag}
 use mir.Syntax.{Width, w16}
 use mir.Val.{SFits, to_z, of_z, sel, bits, hbits}
 use mir.Facts.{to_z-of_z, to_z_pos}
-use borrow.Author.Tests.{le-ltb, eq-eqb, ne_eqb, ltb-true, ltb-false}
+use borrow.Author.Tests.{le-ltb, eqb-true, eqb-false, eq-eqb, ne_eqb, ltb-true, ltb-false}
 use Rattle.score.specs.Wrap.{eq_z}
 use Rattle.score.specs.Bits.{bits_of, signed_of}
-use Rattle.score.proofs.Cases.{sub-ind}
-
-pub below_zero : (z : ℤ) (K : ℕ) → T (lt_z z (pos 0)) → mag z < K → z +ℤ pos K ≡ pos (K - suc (mag z))
-below_zero (pos n) K t h = absurd (no (ltb→lt n 0 t))
-  where
-    no : n < 0 → ⊥
-    no l = omega arith
-below_zero (negsuc n) K t h = sub-ind K (suc n) (λ z. z ≡ pos (K - suc n)) (λ l. absurd (no l)) (λ l. refl)
-  where
-    no : K < suc n → ⊥
-    no l = omega arith
-
-pub neg_of_z : (w : Width) (z : ℤ) → T (lt_z z (pos 0)) → of_z w z ≡ 2 ^ bits w - suc (mag z)
-neg_of_z w (pos n) t = absurd (no (ltb→lt n 0 t))
-  where
-    no : n < 0 → ⊥
-    no l = omega arith
-neg_of_z w (negsuc n) t = refl
-
-pub not_neg : (z : ℤ) → T (not (lt_z z (pos 0))) → z ≡ pos (nat_abs z)
-not_neg (pos n) t = refl
-not_neg (negsuc n) t = absurd t
-
-pub drop_full : (n K : ℕ) → n < K → sub_ℕ n K ≡ negsuc (K - suc n)
-drop_full n K h = sub-ind n K (λ z. z ≡ negsuc (K - suc n)) (λ l. refl) (λ l. absurd (no l))
-  where
-    no : K ≤ n → ⊥
-    no l = omega arith
 
 pub to_z_big : (w : Width) (n : ℕ) → 2 ^ hbits w ≤ n → to_z w n ≡ negsuc (2 ^ bits w - suc n)
 to_z_big w n h = ap (λ (t : Bool). sel t (pos n) (negsuc (2 ^ bits w - suc n))) (le-ltb n (2 ^ hbits w) h)
@@ -62,6 +34,13 @@ eq_z_no (pos a) (pos b) h = ne_eqb a b (λ e. h (ap pos e))
 eq_z_no (pos a) (negsuc b) h = refl
 eq_z_no (negsuc a) (pos b) h = refl
 eq_z_no (negsuc a) (negsuc b) h = ne_eqb a b (λ e. h (ap negsuc e))
+
+pub same_is : (a b : ℤ) → SFits w16 a → SFits w16 b → eqb (of_z w16 a) (of_z w16 b) ≡ eq_z a b
+same_is a b f g = go (eqb (of_z w16 a) (of_z w16 b)) refl
+  where
+    go : (t : Bool) → eqb (of_z w16 a) (of_z w16 b) ≡ t → eqb (of_z w16 a) (of_z w16 b) ≡ eq_z a b
+    go true e = e ∙ sym (eq_z_yes a b (same_bits w16 f g (eqb-true (of_z w16 a) (of_z w16 b) e)))
+    go false e = e ∙ sym (eq_z_no a b (λ q. eqb-false (of_z w16 a) (of_z w16 b) e (ap (of_z w16) q)))
 
 -- there and back: the bits of a number that fits hold that number
 pub signed_bits : (w : Width) (z : ℤ) → SFits w z → signed_of w (bits_of w z) ≡ z

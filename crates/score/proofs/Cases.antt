@@ -15,6 +15,3 @@ sub-ind a b P f g = cond_ind (ltb a b) (negsuc (b - suc a)) (pos (a - b)) P (λ 
 
 pub holds : {b : Bool} → b ≡ true → T b
 holds {b} e = subst T (sym e) tt
-
-pub fails : {b : Bool} → b ≡ false → T (not b)
-fails {b} e = subst (λ (x : Bool). T (not x)) (sym e) tt

@@ -1,6 +1,6 @@
 -- Scores within plus and minus INF, by their distance from the least (`off`): orders, the greatest of two, and the operations, none of which wraps there.
 -- Assumes nothing.
-use mathlib.Core.Path.{◌≡◌, refl, ap}
+use mathlib.Core.Path.{◌≡◌, refl, sym, ◌∙◌}
 use mathlib.Core.Bool.{Bool, true, false, true≢false, false≢true}
 use Prim.Native.Nat.{ℕ, zero, suc, ◌+◌, ◌≤◌, ◌<◌, max}
 use native.Mathlib.Omega.{arith}
@@ -10,6 +10,7 @@ use borrow.Author.Tests.{ltb-true, ltb-false, leb-true, leb-false, lt-ltb}
 use Rattle.score.specs.Wrap.{wrap16, neg16, sub16, max_z}
 use Rattle.score.proofs.Wrapping.{wrap_mid}
 use Rattle.score.proofs.Order.{off}
+use Rattle.score.proofs.Order as order
 
 -- the image of an integer within plus and minus INF
 pub record InR (inf x : ℕ) : Type 0 where
@@ -25,12 +26,13 @@ zero_off = refl
 
 -- the tests
 
-pub lt_yes : (inf : ℕ) (a b : ℤ) → inf ≤ 30000 → InZ inf a → InZ inf b → lt_z a b ≡ true → off a < off b
+mag_in : (inf : ℕ) (z : ℤ) → inf ≤ 30000 → InZ inf z → mag z < 32768
 unfolding off
-lt_yes inf (pos a) (pos b) i ia ib e = omega (arith, ltb-true a b e)
-lt_yes inf (pos a) (negsuc b) i ia ib e = absurd (false≢true e)
-lt_yes inf (negsuc a) (pos b) i ia ib e = omega arith
-lt_yes inf (negsuc a) (negsuc b) i ia ib e = omega (arith, ltb-true b a e)
+mag_in inf (pos k) i r = omega arith
+mag_in inf (negsuc k) i r = omega arith
+
+pub lt_yes : (inf : ℕ) (a b : ℤ) → inf ≤ 30000 → InZ inf a → InZ inf b → lt_z a b ≡ true → off a < off b
+lt_yes inf a b i ia ib e = ltb-true (off a) (off b) (sym (order.off_lt a b (mag_in inf a i ia) (mag_in inf b i ib)) ∙ e)
 
 pub lt_not : (a b : ℤ) → lt_z a b ≡ false → off b ≤ off a
 unfolding off
@@ -47,18 +49,9 @@ le_yes (negsuc a) (pos b) e = omega arith
 le_yes (negsuc a) (negsuc b) e = omega (arith, leb-true b a e)
 
 pub le_not : (inf : ℕ) (a b : ℤ) → inf ≤ 30000 → InZ inf a → InZ inf b → le_z a b ≡ false → off b < off a
-unfolding off
-le_not inf (pos a) (pos b) i ia ib e = omega (arith, leb-false a b e)
-le_not inf (pos a) (negsuc b) i ia ib e = omega arith
-le_not inf (negsuc a) (pos b) i ia ib e = absurd (true≢false e)
-le_not inf (negsuc a) (negsuc b) i ia ib e = omega (arith, leb-false b a e)
+le_not inf a b i ia ib e = leb-false (off a) (off b) (sym (order.off_le a b (mag_in inf a i ia) (mag_in inf b i ib)) ∙ e)
 
 -- the operations, where nothing wraps
-
-mag_in : (inf : ℕ) (z : ℤ) → inf ≤ 30000 → InZ inf z → mag z < 32768
-unfolding off
-mag_in inf (pos k) i r = omega arith
-mag_in inf (negsuc k) i r = omega arith
 
 pub wrap_in : (inf : ℕ) (z : ℤ) → inf ≤ 30000 → InZ inf z → wrap16 z ≡ z
 wrap_in inf z i r = wrap_mid z (mag_in inf z i r)
@@ -109,8 +102,4 @@ mate_off (suc j) ply i l = rw (lt-ltb ply (suc j) l) (omega arith)
 
 -- and back: an image tells the integer
 pub off_inj : (inf : ℕ) (a b : ℤ) → inf ≤ 30000 → InZ inf a → InZ inf b → off a ≡ off b → a ≡ b
-unfolding off
-off_inj inf (pos a) (pos b) i ia ib e = ap pos (omega arith)
-off_inj inf (pos a) (negsuc b) i ia ib e = absurd (omega arith)
-off_inj inf (negsuc a) (pos b) i ia ib e = absurd (omega arith)
-off_inj inf (negsuc a) (negsuc b) i ia ib e = ap negsuc (omega arith)
+off_inj inf a b i ia ib e = order.off_inj a b (mag_in inf a i ia) (mag_in inf b i ib) e

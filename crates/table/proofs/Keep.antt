@@ -1,6 +1,5 @@
 -- What a store leaves, by its two cases, and that it keeps the table's length. Assumes nothing.
-use Rattle.std.proofs.Common.{◌≡◌, ℕ, ◌+◌, ◌/◌, ◌≤◌, Bool, true, false, List, length, get_or, set, ℤ, sym, refl, ap, ◌∙◌, ap₂, mod-lt, arith, length-set}
-use Rattle.transposition.specs.Word.{data_word, entry_of, hash_word}
+use Rattle.std.proofs.Common.{◌≡◌, ℕ, ◌+◌, ◌/◌, ◌≤◌, Bool, true, false, List, length, ℤ, refl, ap, mod-lt, arith, length-set}
 use Rattle.transposition.specs.declared.Bound.{Bound}
 use Rattle.transposition.specs.declared.Entry.{Entry}
 use Rattle.table.specs.Slot.{slot_of, entry_at, replaces, put}
@@ -33,18 +32,3 @@ module _ (words : List ℕ) (stats : Stats) (hash : ℕ) (depth score : ℤ) (mv
   pub store_length : length (store_of words stats hash depth score mv bound).words ≡ length words
   unfolding store_of
   store_length = length-if (replaces (entry_at words hash) stats.age depth) (new_entry stats depth score mv bound)
-
-  -- the same two cases by what the code has at k, where the slot starts
-  module _ (k : ℕ) (at : k ≡ slot_of (length words) hash) (old : Entry) (is : old ≡ entry_of (get_or words (k + 1) 0)) (r : Bool) (rule : r ≡ replaces old stats.age depth) where
-    ruled : r ≡ replaces (entry_at words hash) stats.age depth
-    ruled = rule ∙ ap (λ (o : Entry). replaces o stats.age depth) (is ∙ ap (λ (j : ℕ). entry_of (get_or words (j + 1) 0)) at)
-
-    pub kept : r ≡ false → table_of words stats ≡ store_of words stats hash depth score mv bound
-    kept n = sym (store_keeps (sym ruled ∙ n))
-
-    pub stored : (d h : ℕ) (s : Stats) → d ≡ data_word (new_entry stats depth score mv bound) → h ≡ hash_word hash d → s ≡ inserted stats → r ≡ true → table_of (set (set words k h) (k + 1) d) s ≡ store_of words stats hash depth score mv bound
-    stored d h s qd qh qs y =
-        ap (λ (x : ℕ). table_of (set (set words k x) (k + 1) d) s) qh
-        ∙ ap (λ (x : Stats). table_of (set (set words k (hash_word hash d)) (k + 1) d) x) qs
-        ∙ ap₂ (λ (j x : ℕ). table_of (set (set words j (hash_word hash x)) (j + 1) x) (inserted stats)) at qd
-        ∙ sym (store_puts (sym ruled ∙ y))

@@ -3,7 +3,6 @@ pub mod Keep
 pub mod Again
 pub mod Others
 pub mod Cleared
-pub mod Fill
 pub mod Size
 pub mod Balance
 pub mod Examples

@@ -1,6 +1,11 @@
--- The sizes that a table may have: what the test means, both ways, and a turn of it. Assumes nothing.
-use Rattle.std.proofs.Common.{◌≡◌, ℕ, zero, suc, ◌+◌, ◌*◌, ◌/◌, ◌^◌, ◌<◌, ◌≤◌, Bool, true, false, ◌||◌, eqb, sym, refl, ap, ◌∙◌, add-one, arith, pow_pos, pow_mono, pow-add, eq-eqb, ne_eqb, eqb-true}
+-- The sizes that a table may have: what the test means, both ways, and that the code tests it. Assumes nothing.
+use Rattle.std.proofs.Common.{◌≡◌, ℕ, zero, suc, ◌+◌, ◌*◌, ◌/◌, ◌%◌, ◌^◌, ◌<◌, ◌≤◌, Bool, true, false, ◌||◌, eqb, sym, refl, ap, ◌∙◌, arith, pow_pos, pow_mono, eq-eqb, eqb-true}
 use mathlib.Core.Bool.{false≢true}
+use lib.Dec.{ltb}
+use lib.Count.{ones_step}
+use borrow.Author.Tests.{ltb-true, ltb-false}
+use Rattle.std.specs.Int.RustNames.{count_ones}
+use Rattle.std.proofs.lemmas.Nat.{zero_from_ones, ones_le_self}
 use Rattle.table.specs.Table.{sized_to, well_sized}
 
 -- a power of two, 1 to 65,536
@@ -66,20 +71,62 @@ one_at (suc k) words j l e = go (eqb words (2 * 2 ^ k)) refl (λ m. one_at k wor
 pub sized_well : (words : ℕ) → Sized words → well_sized words ≡ true
 sized_well words s = one_at 17 words s.power.k (omega (arith, s.power.small)) (s.twice ∙ ap (λ (x : ℕ). 2 * x) s.power.is)
 
--- one turn of the test: the sizes passed, and the next one
-module _ (words k size : ℕ) (ok : Bool) (is : size ≡ 2 * 2 ^ k) (passed : ok ≡ sized_to k words) where
-  turn : (eqb words size || ok) ≡ sized_to (k + 1) words
-  unfolding sized_to
-  turn = ap (λ (x : ℕ). eqb words x || ok) is ∙ ap (λ (b : Bool). eqb words (2 * 2 ^ k) || b) passed ∙ ap (λ (i : ℕ). sized_to i words) (sym (add-one k))
+-- one bit is set exactly in a power of two
+bit_one : (k : ℕ) → count_ones (2 ^ k) ≡ 1
+bit_one zero = omega (arith, ones_step 1, ones_le_self 0)
+bit_one (suc k) = omega (arith, ones_step (2 ^ suc k), halved, even, bit_one k)
+  where
+    halved : count_ones (2 ^ suc k / 2) ≡ count_ones (2 ^ k)
+    halved = ap count_ones (half (2 ^ k) (2 ^ suc k) (omega arith))
 
-  pub size_met : words ≡ size → true ≡ sized_to (k + 1) words
-  size_met e = ap (λ (b : Bool). b || ok) (sym (eq-eqb words size e)) ∙ turn
+    even : 2 ^ suc k % 2 ≡ 0
+    even = omega arith
 
-  pub size_not : (words ≡ size → ⊥) → ok ≡ sized_to (k + 1) words
-  size_not n = ap (λ (b : Bool). b || ok) (sym (ne_eqb words size n)) ∙ turn
+one_bit : (d n : ℕ) → n ≤ d → count_ones n ≡ 1 → (k : ℕ) × (n ≡ 2 ^ k)
+one_bit zero n h e = absurd (omega (arith, ones_le_self n))
+one_bit (suc d) n h e = go (n % 2) refl (one_bit d (n / 2) (omega arith))
+  where
+    step : count_ones n ≡ n % 2 + count_ones (n / 2)
+    step = ones_step n
 
-  pub size_next : size * 2 ≡ 2 * 2 ^ (k + 1)
-  size_next = let p = pow-add 2 k 1 in omega (arith, is, p)
+    go : (b : ℕ) → n % 2 ≡ b → (count_ones (n / 2) ≡ 1 → (k : ℕ) × (n / 2 ≡ 2 ^ k)) → (k : ℕ) × (n ≡ 2 ^ k)
+    go zero q rest = let r = rest (omega (arith, step)) in (suc r.0, omega (arith, r.1))
+    go (suc zero) q rest = let none = zero_from_ones (n / 2) (omega (arith, step)) in (0, omega arith)
+    go (suc (suc b)) q rest = absurd (omega arith)
 
-  pub size_bound : k < 17 → size ≤ 131072
-  size_bound l = let p : 2 ^ k ≤ 2 ^ 16 = pow_mono {i = k} {j = 16} (omega arith) in omega (arith, is, p)
+-- a power of two within the bounds is one of the sizes
+one_of : (words k : ℕ) → words ≡ 2 ^ k → 2 ≤ words → words ≤ 131072 → well_sized words ≡ true
+one_of words zero e low high = absurd (omega arith)
+one_of words (suc k) e low high = one_at 17 words k (below (ltb k 17) refl) (e ∙ twice)
+  where
+    twice : 2 ^ suc k ≡ 2 * 2 ^ k
+    twice = omega arith
+
+    below : (b : Bool) → ltb k 17 ≡ b → k < 17
+    below true q = ltb-true k 17 q
+    below false q = let far : 2 ^ 17 ≤ 2 ^ k = pow_mono {i = 17} {j = k} (ltb-false k 17 q) in absurd (omega (arith, e, far))
+
+-- what the code tests, by its cases
+not_true : (b : Bool) → (b ≡ true → ⊥) → b ≡ false
+not_true true f = absurd (f refl)
+not_true false f = refl
+
+pub too_short : (words : ℕ) → words < 2 → well_sized words ≡ false
+too_short words l = not_true (well_sized words) (λ e. let s = well_sized_lem words e in omega (arith, s.long))
+
+pub too_long : (words : ℕ) → 131072 < words → well_sized words ≡ false
+too_long words l = not_true (well_sized words) (λ e. let s = well_sized_lem words e in omega (arith, s.bounded))
+
+pub in_bounds : (words : ℕ) → 2 ≤ words → words ≤ 131072 → eqb (count_ones words) 1 ≡ well_sized words
+in_bounds words low high = go (eqb (count_ones words) 1) refl
+  where
+    one : well_sized words ≡ true → count_ones words ≡ 1
+    one e =
+        let s = well_sized_lem words e in
+        let power : words ≡ 2 ^ suc s.power.k = omega (arith, s.twice, s.power.is) in
+        ap count_ones power ∙ bit_one (suc s.power.k)
+
+    go : (b : Bool) → eqb (count_ones words) 1 ≡ b → eqb (count_ones words) 1 ≡ well_sized words
+    go true q = let p = one_bit words words (omega arith) (eqb-true (count_ones words) 1 q) in
+        q ∙ sym (one_of words p.0 p.1 low high)
+    go false q = q ∙ sym (not_true (well_sized words) (λ e. false≢true (sym q ∙ eq-eqb (count_ones words) 1 (one e))))

@@ -4,14 +4,14 @@
 ghost use Rattle.std.specs.Prelude.{◌≡◌};
 ghost use Rattle.transposition.specs.Word.{bound_byte, bound_of, data_word, entry_of, hash_word};
 
-#[derive(Clone, Copy)]
+#[derive(Clone, Copy, PartialEq, Eq, Debug)]
 pub enum Bound {
     Exact,
     Lower,
     Upper,
 }
 
-#[derive(Clone, Copy)]
+#[derive(Clone, Copy, PartialEq, Eq, Debug)]
 pub struct Entry {
     pub age: u8,
     pub bound: Bound,
@@ -21,57 +21,60 @@ pub struct Entry {
 }
 
 // The byte that a data word has for a bound.
-pub fn bound_byte(bound: Bound) -> u8
-    ensures { result ≡ bound_byte bound }
-{
-    match bound {
-        Bound::Exact => 0,
-        Bound::Lower => 1,
-        Bound::Upper => 2,
+impl From<Bound> for u8 {
+    ghost from_gives = { λ bound byte. byte ≡ bound_byte bound };
+
+    fn from(bound: Bound) -> u8 {
+        match bound {
+            Bound::Exact => 0,
+            Bound::Lower => 1,
+            Bound::Upper => 2,
+        }
     }
 }
 
 // The bound that a byte reads as: any byte has one, since a lent word may hold any.
-pub fn bound_of(byte: u8) -> Bound
-    ensures { result ≡ bound_of byte }
-{
-    if byte == 1 {
-        Bound::Lower
-    } else if byte == 2 {
-        Bound::Upper
-    } else {
-        Bound::Exact
+impl From<u8> for Bound {
+    ghost from_gives = { λ byte bound. bound ≡ bound_of byte };
+
+    #[tactic(auto, unfolding(crate::specs::Word::bound_of))]
+    fn from(byte: u8) -> Bound {
+        match byte {
+            1 => Bound::Lower,
+            2 => Bound::Upper,
+            _ => Bound::Exact,
+        }
     }
 }
 
 // The entry in one word, each field at its place.
-pub fn data_word(e: Entry) -> u64
-    ensures { result ≡ data_word e }
-{
-    let bound = e.bound;
-    let b = bound_byte(bound);
-    let d = score::bits8(e.depth);
-    let s = score::bits16(e.score);
-    (e.age as u64) * 256
-        + (b as u64) * 65536
-        + (d as u64) * 16777216
-        + (s as u64) * 4294967296
-        + (e.mv as u64) * 281474976710656
+impl From<Entry> for u64 {
+    ghost from_gives = { λ e word. word ≡ data_word e };
+
+    #[tactic(auto, unfolding(crate::specs::Word::data_word))]
+    fn from(e: Entry) -> u64 {
+        let bound = u8::from(e.bound);
+        let depth = e.depth.cast_unsigned();
+        let [s0, s1] = e.score.to_le_bytes();
+        let [m0, m1] = e.mv.to_le_bytes();
+        u64::from_le_bytes([0, e.age, bound, depth, s0, s1, m0, m1])
+    }
 }
 
 // The entry that a data word holds. The low byte is not looked at.
-pub fn entry_of(word: u64) -> Entry
-    ensures { result ≡ entry_of word }
-{
-    let bound = bound_of((word / 65536 % 256) as u8);
-    let depth = score::of_bits8((word / 16777216 % 256) as u8);
-    let score = score::of_bits16((word / 4294967296 % 65536) as u16);
-    Entry {
-        age: (word / 256 % 256) as u8,
-        bound: bound,
-        depth: depth,
-        score: score,
-        mv: (word / 281474976710656 % 65536) as u16,
+impl From<u64> for Entry {
+    ghost from_gives = { λ word e. e ≡ entry_of word };
+
+    #[tactic(auto, unfolding(crate::specs::Word::entry_of))]
+    fn from(word: u64) -> Entry {
+        let [_, age, bound, depth, s0, s1, m0, m1] = word.to_le_bytes();
+        Entry {
+            age,
+            bound: Bound::from(bound),
+            depth: depth.cast_signed(),
+            score: i16::from_le_bytes([s0, s1]),
+            mv: u16::from_le_bytes([m0, m1]),
+        }
     }
 }
 
