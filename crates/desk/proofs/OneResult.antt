@@ -7,8 +7,6 @@ use Rattle.table.specs.declared.Stats.{Stats}
 use Rattle.state.specs.declared.Settings.{Settings}
 use Rattle.carry.specs.Carry.{With, with}
 use Rattle.desk.specs.declared.node_search.Start.{Start}
-use Rattle.results.specs.declared.NodeAnswer.{NodeAnswer}
-use Rattle.results.specs.declared.RootAnswer.{RootAnswer}
 use Rattle.desk.specs.NodeEntry.{told_node, node_entry}
 use Rattle.desk.specs.RootEntry.{told_root, root_entry}
 

@@ -9,15 +9,14 @@ use lib.Signed.{le_z}
 use borrow.Author.Tests.{leb-true, le-leb}
 use Rattle.table.specs.declared.Stats.{Stats}
 use Rattle.state.specs.declared.Settings.{Settings}
-use Rattle.carry.specs.Carry.{With, with}
+use Rattle.carry.specs.Carry.{With}
 use Rattle.visits.specs.Reach.{Ready}
 use Rattle.root_steps.specs.declared.Depths.{Depths}
 use Rattle.root.specs.Root.{root_search}
 use Rattle.refusals.specs.Rows.{range_right}
 use Rattle.refusals.specs.First.{first, unless, search_rows}
-use Rattle.refusals.proofs.Given.{first_some, first_none}
 use Rattle.refusals.proofs.Meaning.{search_settings_right, search_accepted, search_words, search_entries, set_hh_max_above}
-use Rattle.desk.specs.RootEntry.{root_refusal, root_refused, root_given, root_answer, root_entry}
+use Rattle.desk.specs.RootEntry.{root_refusal, root_given, root_answer, root_entry}
 
 pub from_one : (z : ℤ) → le_z (pos 1) z ≡ true → le_z (pos 0) z ≡ true
 from_one (pos n) e = le-leb 0 n (omega arith)

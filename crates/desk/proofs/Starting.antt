@@ -11,13 +11,12 @@ use Rattle.tree.specs.Level.{level_of}
 use Rattle.tree.specs.Pick.{pick}
 use Rattle.state.specs.declared.Settings.{Settings}
 use Rattle.state.specs.declared.Out.{Out}
-use Rattle.carry.specs.Carry.{With, with}
+use Rattle.carry.specs.Carry.{With}
 use Rattle.visits.specs.Search.{node_search}
 use Rattle.refusals.specs.Rows.{history_right, node_right, window_right, depth_right, ply_right}
 use Rattle.refusals.specs.First.{first, unless, search_rows}
-use Rattle.refusals.proofs.Given.{first_some, first_none}
 use Rattle.desk.specs.declared.node_search.Start.{Start}
-use Rattle.desk.specs.NodeEntry.{start_right, node_refusal, side_at, fresh, args_of, node_refused, node_given, node_answer, node_entry}
+use Rattle.desk.specs.NodeEntry.{start_right, node_refusal, side_at, fresh, args_of, node_given, node_answer, node_entry}
 
 four : (a b c d : Bool) → (a && b && c && d) ≡ true → (a ≡ true) × (b ≡ true) × (c ≡ true) × (d ≡ true)
 four false b c d e = absurd (false≢true e)

@@ -1,6 +1,6 @@
 -- `desk::node_search::search_node` meets its contract: what the search asks is known once no row is given; its score tells demand 3.
 -- Assumes nothing.
-use Rattle.std.proofs.Common.{◌≡◌, sym, ap, subst, ◌∙◌, rules}
+use Rattle.std.proofs.Common.{sym, ap, subst, ◌∙◌, rules}
 use mir.Syntax.{w16}
 use mir.Val.{SFits}
 use mir.Facts.{to_z-of_z}

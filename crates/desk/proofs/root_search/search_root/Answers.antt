@@ -12,7 +12,7 @@ search_root-d-requires-clause-ready c = ready _ _ _ _ (root_rows_hold _ _ _ _ _ 
 pub search_root-d-requires-clause-side_bound : goal.search_root-d-requires-clause-side_bound
 search_root-d-requires-clause-side_bound c =
     let told : 0 ≡ root_refusal c.args.tree.now c.args.words.now c.args.history.now c.args.set c.args.start c.args.end =
-        simp (to_z-of_z c.ranges.start, to_z-of_z c.ranges.end) at c.in_ok-root_refusal.ensures in
+    simp (to_z-of_z c.ranges.start, to_z-of_z c.ranges.end) at c.in_ok-root_refusal.ensures in
     let none = sym told in
     let start-size : c.unsigned_abs.result ≡ nat_abs c.args.start = simp (to_z-of_z c.ranges.start) at c.unsigned_abs.ensures.value in
     let end-size : c.unsigned_abs-2.result ≡ nat_abs c.args.end = simp (to_z-of_z c.ranges.end) at c.unsigned_abs-2.ensures.value in
