@@ -1,6 +1,6 @@
 -- `desk::node_search::search_node` meets its contract: what the search asks is known once no row is given; its score tells demand 3.
 -- Assumes nothing.
-use Rattle.std.proofs.Common.{sym, ap, subst, ◌∙◌, rules}
+use Rattle.std.proofs.Common.{ℤ, Ok, sym, ap, subst, ◌∙◌, rules}
 use mir.Syntax.{w16}
 use mir.Val.{SFits}
 use mir.Facts.{to_z-of_z}
@@ -13,7 +13,7 @@ use Rattle.visits.proofs.Asked.{enough}
 use Rattle.truth.specs.Demand3.{Told}
 use Rattle.truth.proofs.Told.{told}
 use Rattle.refusals.proofs.Meaning.{search_accepted, set_side_most}
-use Rattle.desk.specs.NodeEntry.{fresh}
+use Rattle.desk.specs.NodeEntry.{fresh, told_node}
 use Rattle.desk.proofs.Searching.{ready}
 use Rattle.desk.proofs.Starting.{node_given_lem}
 use Rattle.desk.proofs.Unrefused.{node_rows_hold, settings_hold, depth_zero, start_reach, in_range, windowed}
@@ -46,8 +46,9 @@ returns-clause-searched c =
     let answer = with c.search_node-o.result c.search_node-o.new.words c.search_node-o.new.history in
     let here : Reach t x = subst (Reach t) (sym c.args_of-a.ensures) (start_reach _ _ _ _ _ none) in
     let score-fits : SFits w16 c.search_node-o.result.score = search rules in
-    simp (to_z-of_z score-fits)
-    (node_given_lem t words history set c.args.at c.args.stats.now none answer
+    ap (λ (z : ℤ). with (told_node (Ok (record { score = z; nodes = c.search_node-o.result.state.nodes; stopped = c.search_node-o.result.state.stop }))
+    c.search_node-o.result.state.stats) c.search_node-o.new.words c.search_node-o.new.history) (to_z-of_z score-fits)
+    ∙ (node_given_lem t words history set c.args.at c.args.stats.now none answer
     (c.search_node-o.ensures (whole t) (enough t x here)
     ∙ ap (λ (y : Args). node_search t set (fresh c.args.stats.now) words history y) c.args_of-a.ensures))
 
