@@ -15,10 +15,11 @@ use table::Stats;
 pub extern "C" fn desk_tree_check(tree: &[u8], inf: i16, max_ply: u16) -> u8
     ensures { result ≡ tree_refusal inf max_ply tree.now }
 {
-    tree::check(tree, inf, max_ply)
+    refusal::number_told(tree::check(tree, inf, max_ply))
 }
 
 // Whether the bit is set whose place is worth `unit`.
+#[tactic(auto, unfolding(crate::specs::Calls::bit_of))]
 fn bit(bits: u8, unit: u8) -> bool
     requires { 0 < unit }
     ensures { result ≡ bit_of bits unit }
@@ -35,7 +36,7 @@ fn settings(switches: u8, limit: u64) -> Settings
         max_ply: 128,
         hh_max: 16384,
         side: 0,
-        limit: limit,
+        limit,
         table: bit(switches, 1),
         delta: bit(switches, 2),
         reverse_futility: bit(switches, 4),
@@ -74,18 +75,28 @@ pub extern "C" fn desk_search_root(
     ensures { told result score.new mv.new nodes.new words.new history.new ≡
         called tree.now switches limit end words.old history.old }
 {
-    let r = root_search::search_root(
+    let mut stats = fresh();
+    let told = root_search::search_root(
         tree,
         words,
         history,
         settings(switches, limit),
-        fresh(),
+        &mut stats,
         1,
         end,
     );
-    let x = r.score;
-    *score = x;
-    *mv = r.mv;
-    *nodes = r.nodes;
-    r.refusal
+    match told {
+        Ok(a) => {
+            *score = a.score;
+            *mv = a.mv;
+            *nodes = a.nodes;
+            0
+        }
+        Err(r) => {
+            *score = 0;
+            *mv = 0;
+            *nodes = 0;
+            r.number()
+        }
+    }
 }
