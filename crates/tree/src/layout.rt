@@ -16,8 +16,15 @@ fn children_right(tree: &[u8], k: usize, start: usize) -> bool
     ensures { result ≡ children_right tree.now k }
 {
     let count = node::child_count(tree, k);
-    let first = if count == 0 { 0 } else { start };
-    count <= 63 && k < start && node::first_child(tree, k) == first
+    if count > 63 || start <= k {
+        return false;
+    }
+    let first = node::first_child(tree, k);
+    if count == 0 {
+        first == 0
+    } else {
+        first == start
+    }
 }
 
 // Row 3, of the whole tree. The starts are summed up on the way.
