@@ -1,4 +1,6 @@
 // Row 4: flags, evaluations, moves, siblings and unused records.
+#![tactic(auto, unfolding(crate::specs::Fields::eval_right, crate::specs::Fields::move_right, crate::specs::Fields::apart, crate::specs::Fields::siblings_right, crate::specs::Fields::fields_ok, crate::specs::Fields::unused_right, crate::specs::Fields::fields_right), using(std::proofs::lemmas::Int::ints, crate::proofs::Every::every_none, crate::proofs::Every::every_more, crate::proofs::Every::every_all, crate::proofs::Blocked::record_in, crate::proofs::Blocked::nodes_most, crate::proofs::Blocked::length_least))]
+
 ghost use Rattle.std.specs.Prelude.{◌≡◌, ◌+◌, ◌<◌, ◌≤◌, length};
 ghost use Rattle.record.specs.Node.{record_at};
 ghost use Rattle.tree.specs.Blocks.{nodes_of, Blocked};
@@ -35,12 +37,10 @@ fn move_apart(tree: &[u8], first: usize, i: usize) -> bool
     ensures { result ≡ apart tree.now first i }
 {
     let m = node::move_to(tree, first + i);
-    let mut j = 0;
-    while j < i {
+    for j in 0..i {
         if node::move_to(tree, first + j) == m {
             return false;
         }
-        j += 1;
     }
     true
 }
@@ -53,12 +53,10 @@ fn siblings_right(tree: &[u8], k: usize) -> bool
 {
     let first = node::first_child(tree, k);
     let count = node::child_count(tree, k);
-    let mut i = 0;
-    while i < count {
+    for i in 0..count {
         if !move_apart(tree, first, i) {
             return false;
         }
-        i += 1;
     }
     true
 }
@@ -69,16 +67,10 @@ fn node_right(tree: &[u8], k: usize, inf: i16, max_ply: u16) -> bool
     requires k_bound { k < nodes_of tree.now }
     ensures { result ≡ fields_ok inf max_ply tree.now k }
 {
-    if node::flags(tree, k) >= 32 {
-        return false;
-    }
-    if !eval_right(node::evaluation(tree, k), inf, max_ply) {
-        return false;
-    }
-    if !move_right(tree, k) {
-        return false;
-    }
-    siblings_right(tree, k)
+    node::flags(tree, k) < 32
+        && eval_right(node::evaluation(tree, k), inf, max_ply)
+        && move_right(tree, k)
+        && siblings_right(tree, k)
 }
 
 // The bytes of the last block behind its last used record.
@@ -87,15 +79,12 @@ fn unused_right(tree: &[u8]) -> bool
     ensures { result ≡ unused_right tree.now }
 {
     let last = tree.len() / 512 - 1;
-    let used = bytes::le16(tree, 512 * last + 502) as usize;
+    let used = bytes::le::<2>(tree, 512 * last + 502) as usize;
     let at = 512 * last + 16 * used;
-    let n = 496 - 16 * used;
-    let mut i = 0;
-    while i < n {
+    for i in 0..496 - 16 * used {
         if tree[at + i] != 0 {
             return false;
         }
-        i += 1;
     }
     true
 }
@@ -106,12 +95,10 @@ pub fn fields_right(tree: &[u8], inf: i16, max_ply: u16) -> bool
     ensures { result ≡ fields_right inf max_ply tree.now }
 {
     let n = blocks::nodes(tree);
-    let mut k = 0;
-    while k < n {
+    for k in 0..n {
         if !node_right(tree, k, inf, max_ply) {
             return false;
         }
-        k += 1;
     }
     unused_right(tree)
 }

@@ -1,4 +1,6 @@
 // Row 3: child counts and the breadth-first rule.
+#![tactic(auto, unfolding(crate::specs::Layout::children_right, crate::specs::Layout::layout_right), using(crate::proofs::Every::every_none, crate::proofs::Every::every_more, crate::proofs::Every::every_all, crate::proofs::Blocked::record_in, crate::proofs::Blocked::length_least, crate::proofs::Laid::start_none, crate::proofs::Laid::start_more))]
+
 ghost use Rattle.std.specs.Prelude.{◌≡◌, ◌+◌, ◌≤◌, length};
 ghost use Rattle.record.specs.Node.{record_at};
 ghost use Rattle.tree.specs.Blocks.{Blocked};
@@ -14,16 +16,15 @@ fn children_right(tree: &[u8], k: usize, start: usize) -> bool
     ensures { result ≡ children_right tree.now k }
 {
     let count = node::child_count(tree, k);
-    if count > 63 {
+    if count > 63 || start <= k {
         return false;
     }
-    if start <= k {
-        return false;
-    }
+    let first = node::first_child(tree, k);
     if count == 0 {
-        return node::first_child(tree, k) == 0;
+        first == 0
+    } else {
+        first == start
     }
-    node::first_child(tree, k) == start
 }
 
 // Row 3, of the whole tree. The starts are summed up on the way.
@@ -32,14 +33,12 @@ pub fn layout_right(tree: &[u8]) -> bool
     ensures { result ≡ layout_right tree.now }
 {
     let n = blocks::nodes(tree);
-    let mut start: usize = 1;
-    let mut k = 0;
-    while k < n {
+    let mut start = 1;
+    for k in 0..n {
         if !children_right(tree, k, start) {
             return false;
         }
         start += node::child_count(tree, k);
-        k += 1;
     }
     start == n
 }

@@ -16,10 +16,8 @@ fn start_from(tree: &[u8], from: usize, start: usize, to: usize) -> usize
     ensures { result ≡ start_of tree.now to }
 {
     let mut sum = start;
-    let mut k = from;
-    while k < to {
+    for k in from..to {
         sum += node::child_count(tree, k);
-        k += 1;
     }
     sum
 }

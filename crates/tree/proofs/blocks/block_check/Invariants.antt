@@ -1,10 +1,7 @@
 -- `tree::blocks::block_check` meets its contract. The loop's invariant: after i words the check is the definition's after i words. Assumes nothing.
-use Rattle.std.proofs.Common.{◌≡◌, ◌-◌, ◌≤◌}
+use Rattle.std.proofs.Common.{◌≡◌}
 use Rattle.tree.specs.Blocks.{check_to}
 use Rattle.tree.proofs.blocks.block_check.Given as goal
 
 abbrev pub invariant-loop-i : goal.invariant-loop-i
-invariant-loop-i l = (l.i ≤ 127) × (l.check ≡ check_to l.tree l.at l.i)
-
-abbrev pub decreases-loop-i : goal.decreases-loop-i
-decreases-loop-i l = 127 - l.i
+invariant-loop-i l = l.check ≡ check_to l.tree l.at l.i

@@ -1,8 +1,12 @@
--- `tree::blocks::turn` meets its contract: the lower 31 bits doubled are the number doubled modulo 2^32. Assumes nothing.
-use Rattle.std.proofs.Common.{◌≡◌, ℕ, ◌+◌, ◌*◌, ◌/◌, ◌%◌, ap, ◌∙◌, arith}
+-- `tree::blocks::turn` meets its contract: the two parts of a rotation share no bit, so it is their sum. Assumes nothing.
+use Rattle.std.proofs.Common.{◌≡◌, ◌+◌, ◌*◌, ◌/◌, ◌%◌, bit_or, arith}
+use Rattle.std.proofs.lemmas.Nat.{or_shifted}
 use Rattle.tree.proofs.blocks.turn.Goals as goal
 
 pub returns : goal.returns
 returns c =
-    let e : c.args.check % 2147483648 * 2 ≡ c.args.check * 2 % 4294967296 = omega arith in
-    c.wrapping_add_u32.ensures.value ∙ ap (λ (k : ℕ). (k + c.args.check / 2147483648 + c.args.word) % 4294967296) e
+    let k = c.args.check in
+    let e : k * 2 % 4294967296 ≡ k % 2147483648 * 2 = omega arith in
+    let o : bit_or (k * 2 % 4294967296) (k / 2147483648) ≡ k % 2147483648 * 2 + k / 2147483648 =
+    rw e (or_shifted (k % 2147483648) 1 (k / 2147483648) (omega arith)) in
+    omega (arith, o, c.rotate_left.ensures)
