@@ -1,11 +1,12 @@
 // A node's record, as that part of the lent tree, and its fields, all read through it.
+#![tactic(auto, unfolding(crate::specs::Node::record_at, crate::specs::Node::first_of, crate::specs::Node::count_of, crate::specs::Node::flags_of, crate::specs::Node::eval_of, crate::specs::Node::move_of, crate::specs::Node::hash_of, crate::specs::Node::in_check, crate::specs::Node::is_quiet, crate::specs::Node::is_pawn_ending, crate::specs::Node::is_draw, crate::specs::Node::is_improving), using(std::proofs::lemmas::Int::ints, crate::proofs::Places::record_length, crate::proofs::Places::record_byte, crate::proofs::Places::record_le))]
+
 ghost use Rattle.std.specs.Prelude.{◌≡◌, ◌+◌, ◌<◌, ◌≤◌, length};
 ghost use Rattle.record.specs.Node.{record_at, record_of, first_of, count_of, flags_of, eval_of, move_of, hash_of, bit_set, in_check, is_quiet, is_pawn_ending, is_draw, is_improving};
 
 use crate::bytes;
 
 // The 16 bytes of a node.
-#[tactic(auto, unfolding(crate::specs::Node::record_at))]
 pub fn record(tree: &[u8], node: usize) -> &[u8]
     requires { record_at node + 16 ≤ length tree.now }
     ensures { result.now ≡ record_of tree.now node }
@@ -14,7 +15,6 @@ pub fn record(tree: &[u8], node: usize) -> &[u8]
     &tree[at..at + 16]
 }
 
-#[tactic(auto, unfolding(crate::specs::Node::first_of), using(crate::proofs::Places::record_length, crate::proofs::Places::record_le))]
 pub fn first_child(tree: &[u8], node: usize) -> usize
     requires { record_at node + 16 ≤ length tree.now }
     ensures { result ≡ first_of tree.now node }
@@ -22,7 +22,6 @@ pub fn first_child(tree: &[u8], node: usize) -> usize
     bytes::le::<2>(record(tree, node), 0) as usize
 }
 
-#[tactic(auto, unfolding(crate::specs::Node::count_of), using(crate::proofs::Places::record_length, crate::proofs::Places::record_byte))]
 pub fn child_count(tree: &[u8], node: usize) -> usize
     requires { record_at node + 16 ≤ length tree.now }
     ensures { result ≡ count_of tree.now node }
@@ -30,7 +29,6 @@ pub fn child_count(tree: &[u8], node: usize) -> usize
     usize::from(record(tree, node)[2])
 }
 
-#[tactic(auto, unfolding(crate::specs::Node::flags_of), using(crate::proofs::Places::record_length, crate::proofs::Places::record_byte))]
 pub fn flags(tree: &[u8], node: usize) -> u8
     requires { record_at node + 16 ≤ length tree.now }
     ensures { result ≡ flags_of tree.now node }
@@ -38,7 +36,6 @@ pub fn flags(tree: &[u8], node: usize) -> u8
     record(tree, node)[3]
 }
 
-#[tactic(auto, unfolding(crate::specs::Node::eval_of), using(crate::proofs::Places::record_length, crate::proofs::Places::record_le, std::proofs::lemmas::Int::ints))]
 pub fn evaluation(tree: &[u8], node: usize) -> i16
     requires { record_at node + 16 ≤ length tree.now }
     ensures { result ≡ eval_of tree.now node }
@@ -46,7 +43,6 @@ pub fn evaluation(tree: &[u8], node: usize) -> i16
     score::of_bits16(bytes::le::<2>(record(tree, node), 4) as u16)
 }
 
-#[tactic(auto, unfolding(crate::specs::Node::move_of), using(crate::proofs::Places::record_length, crate::proofs::Places::record_le))]
 pub fn move_to(tree: &[u8], node: usize) -> u16
     requires { record_at node + 16 ≤ length tree.now }
     ensures { result ≡ move_of tree.now node }
@@ -54,7 +50,6 @@ pub fn move_to(tree: &[u8], node: usize) -> u16
     bytes::le::<2>(record(tree, node), 6) as u16
 }
 
-#[tactic(auto, unfolding(crate::specs::Node::hash_of), using(crate::proofs::Places::record_length, crate::proofs::Places::record_le))]
 pub fn hash(tree: &[u8], node: usize) -> u64
     requires { record_at node + 16 ≤ length tree.now }
     ensures { result ≡ hash_of tree.now node }
@@ -71,7 +66,6 @@ fn flag(tree: &[u8], node: usize, bit: u32) -> bool
     (flags(tree, node) >> bit) % 2 == 1
 }
 
-#[tactic(auto, unfolding(crate::specs::Node::in_check))]
 pub fn in_check(tree: &[u8], node: usize) -> bool
     requires { record_at node + 16 ≤ length tree.now }
     ensures { result ≡ in_check tree.now node }
@@ -79,7 +73,6 @@ pub fn in_check(tree: &[u8], node: usize) -> bool
     flag(tree, node, 0)
 }
 
-#[tactic(auto, unfolding(crate::specs::Node::is_quiet))]
 pub fn is_quiet(tree: &[u8], node: usize) -> bool
     requires { record_at node + 16 ≤ length tree.now }
     ensures { result ≡ is_quiet tree.now node }
@@ -87,7 +80,6 @@ pub fn is_quiet(tree: &[u8], node: usize) -> bool
     flag(tree, node, 1)
 }
 
-#[tactic(auto, unfolding(crate::specs::Node::is_pawn_ending))]
 pub fn is_pawn_ending(tree: &[u8], node: usize) -> bool
     requires { record_at node + 16 ≤ length tree.now }
     ensures { result ≡ is_pawn_ending tree.now node }
@@ -95,7 +87,6 @@ pub fn is_pawn_ending(tree: &[u8], node: usize) -> bool
     flag(tree, node, 2)
 }
 
-#[tactic(auto, unfolding(crate::specs::Node::is_draw))]
 pub fn is_draw(tree: &[u8], node: usize) -> bool
     requires { record_at node + 16 ≤ length tree.now }
     ensures { result ≡ is_draw tree.now node }
@@ -103,7 +94,6 @@ pub fn is_draw(tree: &[u8], node: usize) -> bool
     flag(tree, node, 3)
 }
 
-#[tactic(auto, unfolding(crate::specs::Node::is_improving))]
 pub fn is_improving(tree: &[u8], node: usize) -> bool
     requires { record_at node + 16 ≤ length tree.now }
     ensures { result ≡ is_improving tree.now node }
