@@ -1,8 +1,7 @@
 // The line that the program answers a tree with: 01's settings, the search with them, and the printing.
 #![tactic(auto)]
 
-ghost use Rattle.std.specs.Prelude.{◌≡◌, take};
-ghost use Rattle.std.specs.Bool.{OnTrue};
+ghost use Rattle.std.specs.Prelude.{◌≡◌, take, OnOk};
 ghost use Rattle.std.specs.Io.KnownBytes.{Appends};
 ghost use Rattle.io.specs.Counts.{IsPrefixLen};
 ghost use Rattle.program.specs.Program.{program_settings, fresh_stats, program_entry, program_line};
@@ -10,6 +9,7 @@ ghost use Rattle.program.specs.Program.{program_settings, fresh_stats, program_e
 use desk::root_search;
 use results::RootResult;
 use state::Settings;
+use std::io;
 use std::io::Write;
 use table::Stats;
 
@@ -58,15 +58,17 @@ pub fn answer(tree: &[u8], out: &mut [u8; 160]) -> usize
     ensures prefix_len { IsPrefixLen result out.new }
     ensures out_after { take result out.new ≡ program_line tree.now }
 {
-    text::line(search(tree), out)
+    let line = text::line(search(tree));
+    let bytes = line.as_str().as_bytes();
+    out[..bytes.len()].copy_from_slice(bytes);
+    bytes.len()
 }
 
-// Writes the answer to a writer, as standard output; false where it can't be written. Of a writer whose bytes are known, true
-// says that it has the line behind what it had.
-pub fn print<W: Write>(to: &mut W, tree: &[u8]) -> bool
-    ensures { OnTrue result (Appends (W.contents to.old) (W.contents to.new) (program_line tree.now)) }
+// Writes the answer to a writer, as standard output. Of a writer whose bytes are known, Ok says that it has the line behind
+// what it had.
+pub fn print<W: Write>(to: &mut W, tree: &[u8]) -> io::Result<()>
+    ensures { OnOk result (Appends (W.contents to.old) (W.contents to.new) (program_line tree.now)) }
 {
-    let mut out = [0u8; 160];
-    let n = answer(tree, &mut out);
-    to.write_all(&out[..n]).is_ok()
+    let line = text::line(search(tree));
+    to.write_all(line.as_str().as_bytes())
 }

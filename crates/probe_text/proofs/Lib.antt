@@ -1,4 +1,0 @@
-pub mod Floats
-pub mod Halving
-pub mod Lines
-pub mod Sums
