@@ -28,7 +28,7 @@ fn odd(line: &mut Line, m: u64, exponent: u32)
     requires { (m < 2 ^ 53) × (exponent < 2048) }
 {
     let h = halve(m);
-    line.field(b"", h.left);
+    line.number(h.left);
     line.field(b" e ", (exponent + h.times).cast_signed() - 1075);
 }
 

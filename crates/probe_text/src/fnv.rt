@@ -44,7 +44,7 @@ impl Summed for i16 {
 }
 
 // The sum after the n low bytes of x.
-#[tactic(auto, unfolding(crate::specs::Fnv::bytes_into, crate::specs::Fnv::byte_into))]
+#[tactic(auto, unfolding(crate::specs::Fnv::bytes_into))]
 fn after(sum: u64, x: u64, n: usize) -> u64
     ensures { result ≡ bytes_into sum x n }
 {

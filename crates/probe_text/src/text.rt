@@ -23,6 +23,7 @@ impl Line {
         }
     }
 
+    #[tactic(auto, unfolding(crate::specs::Line::put))]
     pub fn byte(&mut self, b: u8)
         ensures { self.new ≡ put b self.old }
     {
@@ -40,18 +41,20 @@ impl Line {
         }
     }
 
-    // A word and a number after it, in decimal digits; the word has its spaces.
-    pub fn field<I: Integer>(&mut self, word: &[u8], x: I)
-        ensures { self.new ≡ puts (I.text x) (puts word.now self.old) }
+    // In decimal digits.
+    pub fn number<I: Integer>(&mut self, x: I)
+        ensures { self.new ≡ puts (I.text x) self.old }
     {
         let mut digits = Buffer::new();
-        self.bytes(word);
         self.bytes(digits.format(x).as_bytes());
     }
 
-    // 1 for yes, 0 for no.
-    pub fn flag_field(&mut self, word: &[u8], x: bool) {
-        self.field(word, u8::from(x));
+    // A word and a number after it; the word has its spaces.
+    pub fn field<I: Integer>(&mut self, word: &[u8], x: I)
+        ensures { self.new ≡ puts (I.text x) (puts word.now self.old) }
+    {
+        self.bytes(word);
+        self.number(x);
     }
 
     // At least so many hexadecimal digits, from one to 16.
