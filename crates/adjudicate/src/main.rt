@@ -36,8 +36,9 @@ fn read_tree<R: Read>(from: &mut R, buf: &mut [u8]) -> io::Result<usize>
 // One byte more than the longest tree: an input that fills it has a length that is refused, and is never cut to a good one.
 fn main(rt: HostRuntime) -> io::Result<()> {
     let mut buf = [0u8; 65537];
-    let n = read_tree(&mut rt.reader(), &mut buf)
-        .map_err(|_| io::Error::other("standard input can't be read"))?;
+    let n = read_tree(&mut rt.reader(), &mut buf).map_err(|_| io::Error::other(
+        "standard input can't be read",
+    ))?;
     let _ = program::print(&mut io::writer(&rt), &buf[..n]);
     Ok(())
 }

@@ -61,5 +61,7 @@ fn after(sum: u64, x: u64, n: usize) -> u64
 pub fn sum<T: Summed>(items: &[T]) -> u64
     ensures { result ≡ sum_of T.bits T.WIDTH items.now }
 {
-    items.iter().fold(BASIS, |s, x| after(s, x.bits(), T::WIDTH))
+    items
+        .iter()
+        .fold(BASIS, |s, x| after(s, x.bits(), T::WIDTH))
 }

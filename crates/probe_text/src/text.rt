@@ -3,7 +3,6 @@ ghost use Rattle.std.specs.Prelude.{◌≡◌, ◌∷◌, [], min, max, replicat
 ghost use Rattle.probe_text.specs.Line.{line_at, put, puts, Spelled};
 
 use itoa::{Buffer, Integer};
-
 use table::Stats;
 
 // The bytes, and where the next one goes. The longest line has under 400 bytes; what a full line has no room for is left out.
