@@ -1,12 +1,10 @@
 -- 01's worked line of the clock and the edges of row 10, by computing the definitions. Assumes nothing.
 use mathlib.Core.Path.{refl}
-use Rattle.clock.specs.Answers.{refused_when}
-use Rattle.clock.specs.Refusals.{ply_out, now_out, allocation_refused, poll_refused}
-use Rattle.clock.specs.Ticks.{new_of, remaining_of, start_of, set_time_of, allocation, allocated_of, looks, time_up, look, poll_clock, poll_of}
+use Rattle.clock.specs.Ticks.{new_of, start_of, set_time_of, allocated_of, poll_of}
 use Rattle.clock.specs.Lines.{ClockLine, Edges}
 
 pub clock_line : ClockLine
-unfolding refused_when ply_out now_out allocation_refused poll_refused new_of remaining_of start_of allocation allocated_of looks time_up look poll_clock poll_of
+unfolding new_of start_of allocated_of poll_of
 clock_line =
     record {
       ply1 = refl;
@@ -20,7 +18,7 @@ clock_line =
     }
 
 pub edges : Edges
-unfolding refused_when ply_out now_out allocation_refused poll_refused new_of remaining_of start_of set_time_of allocation allocated_of looks time_up look poll_clock poll_of
+unfolding new_of start_of set_time_of allocated_of poll_of
 edges =
     record {
       ply0 = refl;

@@ -1,4 +1,2 @@
-pub mod Laws
-pub mod Answering
 pub mod Kept
 pub mod Examples

@@ -1,9 +1,9 @@
 -- What holds of the clock's answers as a whole: row 10's "exactly when", that a stop stays, and that the contracts allow one result each.
 -- Statements only. Assumes nothing.
 use Rattle.std.specs.Prelude.{◌≡◌, Bool, true, false, ℕ}
+use Rattle.std.specs.declared.result.Result.{Result}
+use Rattle.refusal.specs.declared.Refusal.{Refusal}
 use Rattle.clock.specs.declared.Clock.{Clock}
-use Rattle.clock.specs.declared.Ticked.{Ticked}
-use Rattle.clock.specs.declared.Allotted.{Allotted}
 use Rattle.clock.specs.Answers.{Answer, refused, told, told_poll, told_time}
 use Rattle.clock.specs.Refusals.{ply_out, time_over, allocation_refused, poll_refused}
 use Rattle.clock.specs.Ticks.{new_clock, new_of, start_of, set_time_of, set_increment_of, stop_of, allocated_of, poll_of}
@@ -31,6 +31,6 @@ pub record StopStays (c : Clock) : Type 0 where
 
 -- 01, What a result must tie down: "show that any two results allowed are equal"
 pub record OneResult (c : Clock) (a : Answer) : Type 0 where
-  pub ticked : (r s : Ticked) → told c r ≡ a → told c s ≡ a → r ≡ s
-  pub polled : (r s : Ticked) → told_poll c r ≡ a → told_poll c s ≡ a → r ≡ s
-  pub allotted : (r s : Allotted) → told_time c r ≡ a → told_time c s ≡ a → r ≡ s
+  pub ticked : (r s : Result Clock Refusal) → told c r ≡ a → told c s ≡ a → r ≡ s
+  pub polled : (r s : Result Clock Refusal) → told_poll c r ≡ a → told_poll c s ≡ a → r ≡ s
+  pub allotted : (r s : Result ℕ Refusal) → told_time c r ≡ a → told_time c s ≡ a → r ≡ s

@@ -3,7 +3,7 @@ use Rattle.std.specs.Prelude.{Bool, ◌||◌, ℕ, ◌-◌, eqb, ltb}
 use Rattle.clock.specs.declared.Clock.{Clock}
 
 -- 01, row 10: "clock ply outside 1..65,535"
-unfoldable pub ply_out : ℕ → Bool
+abbrev pub ply_out : ℕ → Bool
 ply_out ply = ltb ply 1 || ltb 65535 ply
 
 -- "time over 2^32 - 1"
@@ -15,7 +15,7 @@ abbrev pub count_below : Clock → ℕ → Bool
 count_below c nodes = ltb nodes c.last
 
 -- "now before the start or over 2^32 - 1 ms after it"
-unfoldable pub now_out : Clock → ℕ → Bool
+abbrev pub now_out : Clock → ℕ → Bool
 now_out c now = ltb now c.started || ltb 4294967295 (now - c.started)
 
 -- "a poll or allocation with remaining 0"
@@ -23,9 +23,9 @@ abbrev pub none_remaining : Clock → Bool
 none_remaining c = eqb c.remaining 0
 
 -- an allocation uses the clock's own time and what remains
-unfoldable pub allocation_refused : Clock → Bool
+abbrev pub allocation_refused : Clock → Bool
 allocation_refused c = time_over c.time || none_remaining c
 
 -- a poll's conditions, in the row's order; tested at every poll, also one that would not look
-unfoldable pub poll_refused : Clock → ℕ → ℕ → Bool
+abbrev pub poll_refused : Clock → ℕ → ℕ → Bool
 poll_refused c nodes now = time_over c.time || count_below c nodes || now_out c now || none_remaining c

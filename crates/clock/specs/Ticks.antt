@@ -17,7 +17,7 @@ abbrev pub played_of : ℕ → ℕ
 played_of ply = (ply - 1) / 2
 
 -- "remaining = level - played modulo level, or 20 at level 0"
-unfoldable pub remaining_of : ℕ → ℕ → ℕ
+abbrev pub remaining_of : ℕ → ℕ → ℕ
 remaining_of level ply = cond (eqb level 0) 20 (level - played_of ply % level)
 
 -- 004, start: no node counted yet, not finished, started now
@@ -81,7 +81,7 @@ stop_of c =
     }
 
 -- 01, History and clock: "Allocated = (time + remaining * increment)/remaining."
-unfoldable pub allocation : Clock → ℕ
+abbrev pub allocation : Clock → ℕ
 allocation c = (c.time + c.remaining * c.increment) / c.remaining
 
 -- 01, row 10: "a poll or allocation with remaining 0", and a time over 2^32 - 1 in the clock
@@ -89,7 +89,7 @@ unfoldable pub allocated_of : Clock → Answer
 allocated_of c = refused_when (allocation_refused c) c (gives (allocation c) c)
 
 -- "A poll looks at the time only when nodes - last > 100"
-unfoldable pub looks : Clock → ℕ → Bool
+abbrev pub looks : Clock → ℕ → Bool
 looks c nodes = ltb 100 (nodes - c.last)
 
 -- 004, elapsed_time
@@ -97,11 +97,11 @@ abbrev pub elapsed : Clock → ℕ → ℕ
 elapsed c now = now - c.started
 
 -- "stops when 50 + elapsed > allocated"
-unfoldable pub time_up : Clock → ℕ → Bool
+abbrev pub time_up : Clock → ℕ → Bool
 time_up c now = ltb (allocation c) (50 + elapsed c now)
 
 -- "then sets last, and stops when 50 + elapsed > allocated. A stop stays."
-unfoldable pub look : Clock → ℕ → ℕ → Clock
+abbrev pub look : Clock → ℕ → ℕ → Clock
 look c nodes now =
     record {
       level = c.level;
@@ -114,7 +114,7 @@ look c nodes now =
     }
 
 -- the clock after a poll, one that looks and one that does not
-unfoldable pub poll_clock : Bool → Clock → ℕ → ℕ → Clock
+abbrev pub poll_clock : Bool → Clock → ℕ → ℕ → Clock
 poll_clock true c nodes now = look c nodes now
 poll_clock false c nodes now = c
 

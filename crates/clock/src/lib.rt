@@ -6,10 +6,12 @@ ghost use Rattle.clock.specs.Answers.{told, told_poll, told_time};
 ghost use Rattle.clock.specs.Refusals.{ply_out, time_over, now_out, allocation_refused, poll_refused};
 ghost use Rattle.clock.specs.Ticks.{new_clock, new_of, remaining_of, start_of, set_time_of, set_increment_of, stop_of, allocation, allocated_of, time_up, poll_of};
 
+use refusal::Refusal;
+
 // 2^32 - 1: the longest time, and the longest that a clock runs, in milliseconds.
 const LONGEST: u64 = 4294967295;
 
-#[derive(Clone, Copy)]
+#[derive(Clone, Copy, Debug, Default, PartialEq, Eq)]
 pub struct Clock {
     // Moves from one time control to the next, 0 where there is none.
     pub level: u16,
@@ -25,57 +27,16 @@ pub struct Clock {
     pub finished: bool,
 }
 
-// The new clock, or refusal 10.
-#[derive(Clone, Copy)]
-pub enum Ticked {
-    Went(Clock),
-    Refused,
-}
-
-// The milliseconds for a move, or refusal 10.
-#[derive(Clone, Copy)]
-pub enum Allotted {
-    Of(u64),
-    Refused,
-}
-
 fn ply_out(ply: u64) -> bool
     ensures { result ≡ ply_out ply }
 {
-    ply < 1 || ply > 65535
+    !(1..=65535).contains(&ply)
 }
 
 fn time_over(time: u64) -> bool
     ensures { result ≡ time_over time }
 {
     time > LONGEST
-}
-
-fn now_out(clock: Clock, now: u64) -> bool
-    ensures { result ≡ now_out clock now }
-{
-    now < clock.started || now - clock.started > LONGEST
-}
-
-fn allocation_refused(clock: Clock) -> bool
-    ensures { result ≡ allocation_refused clock }
-{
-    time_over(clock.time) || clock.remaining == 0
-}
-
-fn poll_refused(clock: Clock, nodes: u64, now: u64) -> bool
-    ensures { result ≡ poll_refused clock nodes now }
-{
-    if time_over(clock.time) {
-        return true;
-    }
-    if nodes < clock.last {
-        return true;
-    }
-    if now_out(clock, now) {
-        return true;
-    }
-    clock.remaining == 0
 }
 
 // Moves to the next time control at a ply. Plies count from 1, two to a move.
@@ -90,65 +51,83 @@ fn moves_remaining(level: u16, ply: u16) -> u16
     level - played % level
 }
 
-// The time left shared among the moves that remain, each with its increment.
-fn allocation(clock: Clock) -> u64
-    requires { allocation_refused clock ≡ false }
-    ensures { result ≡ allocation clock }
-{
-    let moves = clock.remaining as u64;
-    let time = clock.time + moves * (clock.increment as u64);
-    time / moves
-}
-
-// 50 ms are kept back: 25 that go by between two looks, and 25 to play the move.
-fn time_up(clock: Clock, now: u64) -> bool
-    requires { (allocation_refused clock ≡ false) × (now_out clock now ≡ false) }
-    ensures { result ≡ time_up clock now }
-{
-    50 + (now - clock.started) > allocation(clock)
-}
-
 impl Clock {
+    fn now_out(self, now: u64) -> bool
+        ensures { result ≡ now_out self now }
+    {
+        now < self.started || now - self.started > LONGEST
+    }
+
+    fn allocation_refused(self) -> bool
+        ensures { result ≡ allocation_refused self }
+    {
+        time_over(self.time) || self.remaining == 0
+    }
+
+    fn poll_refused(self, nodes: u64, now: u64) -> bool
+        ensures { result ≡ poll_refused self nodes now }
+    {
+        time_over(self.time) || nodes < self.last || self.now_out(now) || self.remaining == 0
+    }
+
+    // The time left shared among the moves that remain, each with its increment.
+    fn allocation(self) -> u64
+        requires { allocation_refused self ≡ false }
+        ensures { result ≡ allocation self }
+    {
+        let moves = u64::from(self.remaining);
+        let time = self.time + moves * u64::from(self.increment);
+        time / moves
+    }
+
+    // 50 ms are kept back: 25 that go by between two looks, and 25 to play the move.
+    fn time_up(self, now: u64) -> bool
+        requires { (allocation_refused self ≡ false) × (now_out self now ≡ false) }
+        ensures { result ≡ time_up self now }
+    {
+        50 + (now - self.started) > self.allocation()
+    }
+
     // A clock that was never started: all moves of its level remain.
-    pub fn new(level: u16, time: u64) -> Ticked
+    #[tactic(auto, unfolding(crate::specs::Ticks::new_of))]
+    pub fn new(level: u16, time: u64) -> Result<Clock, Refusal>
         ensures { told (new_clock 0 0) result ≡ new_of level time }
     {
         if time_over(time) {
-            return Ticked::Refused;
+            return Err(Refusal::Clock);
         }
-        Ticked::Went(Clock {
+        Ok(Clock {
             level,
             remaining: level,
             time,
-            increment: 0,
-            last: 0,
-            started: 0,
-            finished: false,
+            ..Clock::default()
         })
     }
 
     // Begins a move. What an earlier move counted or stopped is forgotten.
-    pub fn start(mut self, ply: u64, now: u64) -> Ticked
+    #[tactic(auto, unfolding(crate::specs::Ticks::start_of))]
+    pub fn start(mut self, ply: u64, now: u64) -> Result<Clock, Refusal>
         ensures { told self result ≡ start_of self ply now }
     {
         if ply_out(ply) {
-            return Ticked::Refused;
+            return Err(Refusal::Clock);
         }
         self.remaining = moves_remaining(self.level, ply as u16);
         self.last = 0;
         self.started = now;
         self.finished = false;
-        Ticked::Went(self)
+        Ok(self)
     }
 
-    pub fn set_time(mut self, time: u64) -> Ticked
+    #[tactic(auto, unfolding(crate::specs::Ticks::set_time_of))]
+    pub fn set_time(mut self, time: u64) -> Result<Clock, Refusal>
         ensures { told self result ≡ set_time_of self time }
     {
         if time_over(time) {
-            return Ticked::Refused;
+            return Err(Refusal::Clock);
         }
         self.time = time;
-        Ticked::Went(self)
+        Ok(self)
     }
 
     pub fn set_increment(mut self, increment: u16) -> Clock
@@ -166,28 +145,30 @@ impl Clock {
         self
     }
 
-    pub fn allocated(self) -> Allotted
+    #[tactic(auto, unfolding(crate::specs::Ticks::allocated_of))]
+    pub fn allocated(self) -> Result<u64, Refusal>
         ensures { told_time self result ≡ allocated_of self }
     {
-        if allocation_refused(self) {
-            return Allotted::Refused;
+        if self.allocation_refused() {
+            return Err(Refusal::Clock);
         }
-        Allotted::Of(allocation(self))
+        Ok(self.allocation())
     }
 
     // The answer is the new clock's `finished`. The time is looked at only now and then, since a look costs more than a node.
-    pub fn poll(mut self, nodes: u64, now: u64) -> Ticked
+    #[tactic(auto, unfolding(crate::specs::Ticks::poll_of))]
+    pub fn poll(mut self, nodes: u64, now: u64) -> Result<Clock, Refusal>
         ensures { told_poll self result ≡ poll_of self nodes now }
     {
-        if poll_refused(self, nodes, now) {
-            return Ticked::Refused;
+        if self.poll_refused(nodes, now) {
+            return Err(Refusal::Clock);
         }
         if nodes - self.last > 100 {
             self.last = nodes;
-            if time_up(self, now) {
-                return Ticked::Went(self.stop());
+            if self.time_up(now) {
+                return Ok(self.stop());
             }
         }
-        Ticked::Went(self)
+        Ok(self)
     }
 }

@@ -1,4 +1,4 @@
-pub mod OneResult
 pub mod Searching
 pub mod Starting
 pub mod Unrefused
+pub mod OneResult

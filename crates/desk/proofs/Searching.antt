@@ -9,20 +9,14 @@ use lib.Signed.{le_z}
 use borrow.Author.Tests.{leb-true, le-leb}
 use Rattle.table.specs.declared.Stats.{Stats}
 use Rattle.state.specs.declared.Settings.{Settings}
-use Rattle.carry.specs.Carry.{With, with}
+use Rattle.carry.specs.Carry.{With}
 use Rattle.visits.specs.Reach.{Ready}
 use Rattle.root_steps.specs.declared.Depths.{Depths}
 use Rattle.root.specs.Root.{root_search}
 use Rattle.refusals.specs.Rows.{range_right}
 use Rattle.refusals.specs.First.{first, unless, search_rows}
-use Rattle.refusals.proofs.Given.{first_some, first_none}
 use Rattle.refusals.proofs.Meaning.{search_settings_right, search_accepted, search_words, search_entries, set_hh_max_above}
-use Rattle.desk.specs.RootEntry.{root_refusal, root_refused, root_given, root_answer, root_entry}
-
--- an integer from 0 on is its size
-pub from_zero : (z : ℤ) → le_z (pos 0) z ≡ true → z ≡ pos (nat_abs z)
-from_zero (pos n) e = refl
-from_zero (negsuc n) e = absurd (false≢true e)
+use Rattle.desk.specs.RootEntry.{root_refusal, root_given, root_answer, root_entry}
 
 pub from_one : (z : ℤ) → le_z (pos 1) z ≡ true → le_z (pos 0) z ≡ true
 from_one (pos n) e = le-leb 0 n (omega arith)
@@ -61,32 +55,9 @@ module _ (t words : List ℕ) (history : List ℤ) (set : Settings) (start end :
   unfolding root_refusal
   root_right e = both (search_rows t words history set) (range_right start end) e
 
-  module _ (r : ℕ) (er : r ≡ search_rows t words history set) where
-    pub root_rows : (r ≡ 0 → ⊥) → r ≡ root_refusal t words history set start end
-    unfolding root_refusal
-    root_rows n = rw (← er) (first_some r (unless (range_right start end) 7 0) n)
-
-    module _ (z : r ≡ 0) where
-      rest : unless (range_right start end) 7 0 ≡ root_refusal t words history set start end
-      unfolding root_refusal
-      rest = rw (← er) (first_none r (unless (range_right start end) 7 0) z)
-
-      pub root_range : range_right start end ≡ false → 7 ≡ root_refusal t words history set start end
-      root_range e = rw e at rest
-
-      pub root_none : range_right start end ≡ true → 0 ≡ root_refusal t words history set start end
-      root_none e = rw e at rest
-
-  -- the answer, refused or given
-  module _ (c : Stats) where
-    refused : (n : ℕ) → (n ≡ 0 → ⊥) → with (root_refused n c) words history ≡ root_answer n t set c start end words history
-    unfolding root_answer
-    refused zero h = absurd (h refl)
-    refused (suc n) h = refl
-
-    pub root_refused_lem : (n : ℕ) → n ≡ root_refusal t words history set start end → (n ≡ 0 → ⊥) → with (root_refused n c) words history ≡ root_entry t set c start end words history
-    root_refused_lem n e h = refused n h ∙ ap (λ (m : ℕ). root_answer m t set c start end words history) e
-
-    pub root_given_lem : root_refusal t words history set start end ≡ 0 → (d : With Depths) → d ≡ root_search t set c (nat_abs start) (nat_abs end) words history → root_given d ≡ root_entry t set c start end words history
-    unfolding root_answer
-    root_given_lem z d ed = ap root_given ed ∙ sym (ap (λ (m : ℕ). root_answer m t set c start end words history) z)
+  -- the answer where none is given
+  pub root_given_lem
+      : (c : Stats) → root_refusal t words history set start end ≡ 0 → (d : With Depths) → d ≡ root_search t set c (nat_abs start) (nat_abs end) words history
+      → root_given d ≡ root_entry t set c start end words history
+  unfolding root_answer
+  root_given_lem c z d ed = ap root_given ed ∙ sym (ap (λ (m : ℕ). root_answer m t set c start end words history) z)

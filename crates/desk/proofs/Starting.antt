@@ -11,33 +11,12 @@ use Rattle.tree.specs.Level.{level_of}
 use Rattle.tree.specs.Pick.{pick}
 use Rattle.state.specs.declared.Settings.{Settings}
 use Rattle.state.specs.declared.Out.{Out}
-use Rattle.carry.specs.Carry.{With, with}
+use Rattle.carry.specs.Carry.{With}
 use Rattle.visits.specs.Search.{node_search}
 use Rattle.refusals.specs.Rows.{history_right, node_right, window_right, depth_right, ply_right}
 use Rattle.refusals.specs.First.{first, unless, search_rows}
-use Rattle.refusals.proofs.Given.{first_some, first_none}
 use Rattle.desk.specs.declared.node_search.Start.{Start}
-use Rattle.desk.specs.NodeEntry.{start_right, node_refusal, side_at, fresh, args_of, node_refused, node_given, node_answer, node_entry}
-
--- row 7, test by test
-module _ (t : List ℕ) (set : Settings) (at : Start) where
-  pub start_node : node_right t at.node ≡ false → false ≡ start_right t set at
-  unfolding start_right
-  start_node e = rw e refl
-
-  module _ (n : node_right t at.node ≡ true) where
-    pub start_window : window_right set.inf at.alpha at.beta ≡ false → false ≡ start_right t set at
-    unfolding start_right
-    start_window e = rw n (rw e refl)
-
-    module _ (w : window_right set.inf at.alpha at.beta ≡ true) where
-      pub start_depth : depth_right at.depth ≡ false → false ≡ start_right t set at
-      unfolding start_right
-      start_depth e = rw n (rw w (rw e refl))
-
-      pub start_ply : depth_right at.depth ≡ true → ply_right set.max_ply at.ply ≡ start_right t set at
-      unfolding start_right
-      start_ply d = rw n (rw w (rw d refl))
+use Rattle.desk.specs.NodeEntry.{start_right, node_refusal, side_at, fresh, args_of, node_given, node_answer, node_entry}
 
 four : (a b c d : Bool) → (a && b && c && d) ≡ true → (a ≡ true) × (b ≡ true) × (c ≡ true) × (d ≡ true)
 four false b c d e = absurd (false≢true e)
@@ -61,53 +40,15 @@ module _ (t words : List ℕ) (history : List ℤ) (set : Settings) (at : Start)
   unfolding node_refusal
   node_right_lem e = three (search_rows t words history set) (history_right set.hh_max history) (start_right t set at) e
 
-  module _ (r : ℕ) (er : r ≡ search_rows t words history set) where
-    pub node_rows : (r ≡ 0 → ⊥) → r ≡ node_refusal t words history set at
-    unfolding node_refusal
-    node_rows n = rw (← er) (first_some r (unless (history_right set.hh_max history) 9 (unless (start_right t set at) 7 0)) n)
-
-    module _ (z : r ≡ 0) where
-      rest : unless (history_right set.hh_max history) 9 (unless (start_right t set at) 7 0) ≡ node_refusal t words history set at
-      unfolding node_refusal
-      rest = rw (← er) (first_none r (unless (history_right set.hh_max history) 9 (unless (start_right t set at) 7 0)) z)
-
-      pub node_history : history_right set.hh_max history ≡ false → 9 ≡ node_refusal t words history set at
-      node_history e = rw e at rest
-
-      module _ (h : history_right set.hh_max history ≡ true) where
-        later : unless (start_right t set at) 7 0 ≡ node_refusal t words history set at
-        later = rw h at rest
-
-        pub node_start : start_right t set at ≡ false → 7 ≡ node_refusal t words history set at
-        node_start e = rw e at later
-
-        pub node_none : start_right t set at ≡ true → 0 ≡ node_refusal t words history set at
-        node_none e = rw e at later
-
-  -- the answer, refused or given
-  module _ (c : Stats) where
-    refused : (n : ℕ) → (n ≡ 0 → ⊥) → with (node_refused n c) words history ≡ node_answer n t set c at words history
-    unfolding node_answer
-    refused zero h = absurd (h refl)
-    refused (suc n) h = refl
-
-    pub node_refused_lem : (n : ℕ) → n ≡ node_refusal t words history set at → (n ≡ 0 → ⊥) → with (node_refused n c) words history ≡ node_entry t set c at words history
-    node_refused_lem n e h = refused n h ∙ ap (λ (m : ℕ). node_answer m t set c at words history) e
-
-    pub node_given_lem : node_refusal t words history set at ≡ 0 → (o : With Out) → o ≡ node_search t set (fresh c) words history (args_of t set at) → node_given o ≡ node_entry t set c at words history
-    unfolding node_answer
-    node_given_lem z o eo = ap node_given eo ∙ sym (ap (λ (m : ℕ). node_answer m t set c at words history) z)
+  -- the answer where none is given
+  pub node_given_lem
+      : (c : Stats) → node_refusal t words history set at ≡ 0 → (o : With Out) → o ≡ node_search t set (fresh c) words history (args_of t set at)
+      → node_given o ≡ node_entry t set c at words history
+  unfolding node_answer
+  node_given_lem c z o eo = ap node_given eo ∙ sym (ap (λ (m : ℕ). node_answer m t set c at words history) z)
 
 -- the side to move
 module _ (t : List ℕ) (set : Settings) (node : ℕ) where
-  pub side_even : eqb (level_of t node % 2) 0 ≡ true → set.side ≡ side_at t set node
-  unfolding side_at
-  side_even e = rw e refl
-
-  pub side_odd : eqb (level_of t node % 2) 0 ≡ false → 1 - set.side ≡ side_at t set node
-  unfolding side_at
-  side_odd e = rw e refl
-
   pub side_most : set.side ≤ 1 → side_at t set node ≤ 1
   unfolding side_at
   side_most h = go (eqb (level_of t node % 2) 0)

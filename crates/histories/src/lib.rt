@@ -1,93 +1,55 @@
 // The history's public entries: delta takes HH_MAX alone; bonus and malus take HH_MAX, the side and the lent entries. `hh` is HH_MAX.
 #![tactic(auto)]
 
-ghost use Rattle.std.specs.Prelude.{◌≡◌, true, ◌≤◌, pos, nat_abs, length};
-ghost use Rattle.std.specs.Int.Signed.{le_z};
-ghost use Rattle.histories.specs.Histories.{over_history, entry_given, entry_refused, bonus_entry, malus_entry, delta_entry};
+ghost use Rattle.std.specs.Prelude.{◌≡◌, ◌≤◌, ◌/◌, pos, nat_abs};
+ghost use Rattle.history.specs.Gravity.{delta_of};
+ghost use Rattle.histories.specs.Histories.{told_delta, delta_entry, over_history, told_entry, change_entry, bonus_entry, malus_entry};
 
-#[derive(Clone, Copy)]
-pub struct DeltaResult {
-    pub refusal: u8,
-    pub delta: i16,
-}
+use refusal::Refusal;
 
-// The entry after a bonus or a malus, 0 where it is refused.
-#[derive(Clone, Copy)]
-pub struct EntryResult {
-    pub refusal: u8,
-    pub entry: i16,
-}
-
-// HH_MAX as the history takes it.
-fn unsigned(hh: i16) -> u16
-    requires { le_z (pos 0) hh ≡ true }
-    ensures { result ≡ nat_abs hh }
+// The delta of a depth as a score, which has room for a quarter of any HH_MAX.
+#[tactic(auto, using(history::proofs::Curve::delta16))]
+fn delta_score(hh: i16, depth: i8) -> i16
+    ensures { result ≡ pos (delta_of (nat_abs hh) depth) }
 {
-    score::bits16(hh)
+    history::delta(depth, hh.unsigned_abs()) as i16
 }
 
 // By how much a cutoff at this depth moves an entry.
-pub fn delta(hh: i16, depth: i8) -> DeltaResult
-    ensures { result ≡ delta_entry hh depth }
+#[tactic(auto, unfolding(crate::specs::Histories::delta_rows, crate::specs::Histories::delta_answer))]
+pub fn delta(hh: i16, depth: i8) -> Result<i16, Refusal>
+    ensures { told_delta result ≡ delta_entry hh depth }
 {
     if !refusals::hh_max_right(hh) {
-        return DeltaResult {
-            refusal: 6,
-            delta: 0,
-        };
+        return Err(Refusal::Settings);
     }
-    let d = history::delta(depth, unsigned(hh));
-    DeltaResult {
-        refusal: 0,
-        delta: d as i16,
-    }
+    Ok(delta_score(hh, depth))
 }
 
-fn entry_refused(refusal: u8) -> EntryResult
-    ensures { result ≡ entry_refused refusal }
+// Gravity by v at the entry of a side's move, which is the answer: bonus and malus are this, with v of either sign.
+#[tactic(auto, unfolding(crate::specs::Histories::change_answer), using(crate::proofs::HistoryAnswers::accepted, history::proofs::Change::index_below))]
+fn change(history: &mut [i16], hh: i16, side: u16, mv: u16, v: i16) -> Result<i16, Refusal>
+    requires { nat_abs v ≤ nat_abs hh / 4 }
+    ensures { over_history (told_entry result) history.new ≡ change_entry history.old hh side mv v }
 {
-    EntryResult {
-        refusal: refusal,
-        entry: 0,
-    }
-}
-
-// The entry of a side's move, once it is changed.
-fn entry_given(history: &[i16], side: u8, mv: u16) -> EntryResult
-    requires { (length history.now ≡ 8192) × (side ≤ 1) }
-    ensures { result ≡ entry_given history.now side mv }
-{
-    let i = history::history_index(side, mv);
-    EntryResult {
-        refusal: 0,
-        entry: history[i],
-    }
+    refusals::entry_rows(history, hh, side)?;
+    let side = side as u8;
+    history::update(history, hh.unsigned_abs(), side, mv, v);
+    Ok(history[history::history_index(side, mv)])
 }
 
 // A quiet move that cut off at this depth.
-pub fn bonus(history: &mut [i16], hh: i16, side: u16, mv: u16, depth: i8) -> EntryResult
-    ensures { over_history result history.new ≡ bonus_entry history.old hh side mv depth }
+#[tactic(auto, unfolding(history::specs::Entries::bonus_of), using(history::proofs::Curve::delta_le))]
+pub fn bonus(history: &mut [i16], hh: i16, side: u16, mv: u16, depth: i8) -> Result<i16, Refusal>
+    ensures { over_history (told_entry result) history.new ≡ bonus_entry history.old hh side mv depth }
 {
-    let r = refusals::entry_rows(history, hh, side);
-    if r != 0 {
-        return entry_refused(r);
-    }
-    let most = unsigned(hh);
-    let s = side as u8;
-    history::bonus(history, most, s, mv, depth);
-    entry_given(history, s, mv)
+    change(history, hh, side, mv, delta_score(hh, depth))
 }
 
 // A quiet move that was tried before the one that cut off.
-pub fn malus(history: &mut [i16], hh: i16, side: u16, mv: u16, depth: i8) -> EntryResult
-    ensures { over_history result history.new ≡ malus_entry history.old hh side mv depth }
+#[tactic(auto, unfolding(history::specs::Entries::malus_of))]
+pub fn malus(history: &mut [i16], hh: i16, side: u16, mv: u16, depth: i8) -> Result<i16, Refusal>
+    ensures { over_history (told_entry result) history.new ≡ malus_entry history.old hh side mv depth }
 {
-    let r = refusals::entry_rows(history, hh, side);
-    if r != 0 {
-        return entry_refused(r);
-    }
-    let most = unsigned(hh);
-    let s = side as u8;
-    history::malus(history, most, s, mv, depth);
-    entry_given(history, s, mv)
+    change(history, hh, side, mv, -delta_score(hh, depth))
 }

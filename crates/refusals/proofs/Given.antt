@@ -1,5 +1,5 @@
--- Which row is given: the first whose rule does not hold, and 0 exactly where all hold. Assumes nothing.
-use mathlib.Core.Path.{◌≡◌, refl, ◌∙◌}
+-- A row is given where its rule fails; none is given exactly where all rules hold. Assumes nothing.
+use mathlib.Core.Path.{◌≡◌, refl}
 use mathlib.Core.Bool.{Bool, true, false, true≢false, false≢true}
 use mathlib.Core.List.{List}
 use Prim.Native.Nat.{ℕ, zero, suc}
@@ -27,74 +27,6 @@ first_some (suc n) later h = refl
 pub first_none : (n later : ℕ) → n ≡ 0 → later ≡ first n later
 first_none zero later e = refl
 first_none (suc n) later e = absurd (omega arith)
-
--- the tree and its settings
-module _ (inf : ℤ) (maxPly : ℕ) (t : List ℕ) where
-  pub tree_settings : tree_settings_right inf maxPly ≡ false → 6 ≡ tree_rows inf maxPly t
-  unfolding tree_rows
-  tree_settings e = unless_fails (tree_settings_right inf maxPly) 6 (tree_refusal inf maxPly t) e
-
-  pub tree_rest : tree_settings_right inf maxPly ≡ true → tree_refusal inf maxPly t ≡ tree_rows inf maxPly t
-  unfolding tree_rows
-  tree_rest e = unless_holds (tree_settings_right inf maxPly) 6 (tree_refusal inf maxPly t) e
-
--- both searches
-module _ (t words : List ℕ) (history : List ℤ) (set : Settings) where
-  abbrev sized : ℕ
-  sized = unless (table_right words) 8 (unless (history_sized history) 8 0)
-
-  abbrev behind : ℕ
-  behind = first (tree_refusal set.inf set.max_ply t) sized
-
-  pub search_settings : settings_right set ≡ false → 6 ≡ search_rows t words history set
-  unfolding search_rows
-  search_settings e = unless_fails (settings_right set) 6 behind e
-
-  module _ (s : settings_right set ≡ true) where
-    pub search_tree : (tree_refusal set.inf set.max_ply t ≡ 0 → ⊥) → tree_refusal set.inf set.max_ply t ≡ search_rows t words history set
-    unfolding search_rows
-    search_tree n = first_some (tree_refusal set.inf set.max_ply t) sized n ∙ unless_holds (settings_right set) 6 behind s
-
-    module _ (a : tree_refusal set.inf set.max_ply t ≡ 0) where
-      rest : sized ≡ search_rows t words history set
-      unfolding search_rows
-      rest = first_none (tree_refusal set.inf set.max_ply t) sized a ∙ unless_holds (settings_right set) 6 behind s
-
-      pub search_table : table_right words ≡ false → 8 ≡ search_rows t words history set
-      search_table e = unless_fails (table_right words) 8 (unless (history_sized history) 8 0) e ∙ rest
-
-      module _ (w : table_right words ≡ true) where
-        pub search_history : history_sized history ≡ false → 8 ≡ search_rows t words history set
-        search_history e = unless_fails (history_sized history) 8 0 e ∙ unless_holds (table_right words) 8 (unless (history_sized history) 8 0) w ∙ rest
-
-        pub search_none : history_sized history ≡ true → 0 ≡ search_rows t words history set
-        search_none e = unless_holds (history_sized history) 8 0 e ∙ unless_holds (table_right words) 8 (unless (history_sized history) 8 0) w ∙ rest
-
--- a bonus or a malus
-module _ (history : List ℤ) (hh : ℤ) (side : ℕ) where
-  pub entry_settings : history_settings_right hh side ≡ false → 6 ≡ entry_rows history hh side
-  unfolding entry_rows
-  entry_settings e = unless_fails (history_settings_right hh side) 6 (unless (history_sized history) 8 (unless (history_right hh history) 9 0)) e
-
-  module _ (s : history_settings_right hh side ≡ true) where
-    pub entry_sized : history_sized history ≡ false → 8 ≡ entry_rows history hh side
-    unfolding entry_rows
-    entry_sized e =
-        unless_fails (history_sized history) 8 (unless (history_right hh history) 9 0) e
-        ∙ unless_holds (history_settings_right hh side) 6 (unless (history_sized history) 8 (unless (history_right hh history) 9 0)) s
-
-    module _ (l : history_sized history ≡ true) where
-      last : unless (history_right hh history) 9 0 ≡ entry_rows history hh side
-      unfolding entry_rows
-      last =
-          unless_holds (history_sized history) 8 (unless (history_right hh history) 9 0) l
-          ∙ unless_holds (history_settings_right hh side) 6 (unless (history_sized history) 8 (unless (history_right hh history) 9 0)) s
-
-      pub entry_beyond : history_right hh history ≡ false → 9 ≡ entry_rows history hh side
-      entry_beyond e = unless_fails (history_right hh history) 9 0 e ∙ last
-
-      pub entry_none : history_right hh history ≡ true → 0 ≡ entry_rows history hh side
-      entry_none e = unless_holds (history_right hh history) 9 0 e ∙ last
 
 -- 0 where all rules hold, and only there
 

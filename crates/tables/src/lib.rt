@@ -1,148 +1,84 @@
-// The table's public entries. Each takes any words and numbers, and refuses a table of a wrong length with 8.
+// The table's public entries. Each takes any words and numbers, and refuses a table of a wrong length with 8. The age and counters are lent: a
+// refused call leaves them as they are.
 #![tactic(auto)]
 
 ghost use Rattle.std.specs.Prelude.{◌≡◌};
+ghost use Rattle.refusal.specs.Number.{number_told};
 ghost use Rattle.state.specs.State.{over};
-ghost use Rattle.tables.specs.Tables.{lookup_given, lookup_refused, lookup_entry, stats_given, stats_refused, store_entry, reset_entry, clear_entry, occupancy_refused, occupancy_entry, OccupancyExact};
+ghost use Rattle.tables.specs.Tables.{table_rows, told_lookup, lookup_entry, told_stats, store_entry, reset_entry, clear_entry, told_occupancy, occupancy_entry, OccupancyExact};
 
 use percentages::occupancy::Occupancy;
-use table::{Found, Looked, Stats};
+use refusal::Refusal;
+use table::{Found, Stats};
 use transposition::Bound;
 
-// What a lookup found (a miss where it is refused), and the age and counters after it.
-#[derive(Clone, Copy)]
-pub struct LookupResult {
-    pub refusal: u8,
-    pub found: Found,
-    pub stats: Stats,
-}
-
-// The age and counters after a store, a reset or a clear; as they went in where it is refused.
-#[derive(Clone, Copy)]
-pub struct StatsResult {
-    pub refusal: u8,
-    pub stats: Stats,
-}
-
-// The three percentages, all 0 where they are refused.
-#[derive(Clone, Copy)]
-pub struct OccupancyResult {
-    pub refusal: u8,
-    pub occupancy: Occupancy,
-}
-
-fn lookup_refused(stats: Stats) -> LookupResult
-    ensures { result ≡ lookup_refused 8 stats }
+// Row 8, of the table.
+#[tactic(auto, unfolding(crate::specs::Tables::table_rows))]
+fn sized(words: &[u64]) -> Result<(), Refusal>
+    ensures { number_told result ≡ table_rows words.now }
 {
-    LookupResult {
-        refusal: 8,
-        found: Found::Miss,
-        stats: stats,
-    }
-}
-
-fn lookup_given(l: Looked) -> LookupResult
-    ensures { result ≡ lookup_given l }
-{
-    let found = l.found;
-    let stats = l.stats;
-    LookupResult {
-        refusal: 0,
-        found: found,
-        stats: stats,
-    }
-}
-
-fn stats_refused(stats: Stats) -> StatsResult
-    ensures { result ≡ stats_refused 8 stats }
-{
-    StatsResult {
-        refusal: 8,
-        stats: stats,
-    }
-}
-
-fn stats_given(stats: Stats) -> StatsResult
-    ensures { result ≡ stats_given stats }
-{
-    StatsResult {
-        refusal: 0,
-        stats: stats,
-    }
-}
-
-fn occupancy_refused() -> OccupancyResult
-    ensures { result ≡ occupancy_refused 8 }
-{
-    OccupancyResult {
-        refusal: 8,
-        occupancy: Occupancy {
-            exact: 0.0,
-            lower: 0.0,
-            upper: 0.0,
-        },
+    if refusals::table_right(words) {
+        Ok(())
+    } else {
+        Err(Refusal::Sizes)
     }
 }
 
 // What stands at a hash, counted.
-pub fn lookup(words: &[u64], stats: Stats, hash: u64) -> LookupResult
-    ensures { result ≡ lookup_entry words.now stats hash }
+#[tactic(auto, unfolding(crate::specs::Tables::lookup_answer), using(crate::proofs::TableAnswers::table_words))]
+pub fn lookup(words: &[u64], stats: &mut Stats, hash: u64) -> Result<Found, Refusal>
+    ensures { told_lookup result stats.new ≡ lookup_entry words.now stats.old hash }
 {
-    if !refusals::table_right(words) {
-        return lookup_refused(stats);
-    }
-    lookup_given(table::lookup(words, stats, hash))
+    sized(words)?;
+    let l = table::lookup(words, *stats, hash);
+    *stats = l.stats;
+    Ok(l.found)
 }
 
 // An entry of the table's age goes into the slot of its hash, where what is stored there gives way to it.
+#[tactic(auto, unfolding(crate::specs::Tables::table_answer), using(crate::proofs::TableAnswers::table_words))]
 pub fn store(
     words: &mut [u64],
-    stats: Stats,
+    stats: &mut Stats,
     hash: u64,
     depth: i8,
     score: i16,
     mv: u16,
     bound: Bound,
-) -> StatsResult
-    ensures { over result words.new ≡ store_entry words.old stats hash depth score mv bound }
+) -> Result<(), Refusal>
+    ensures { over (told_stats result stats.new) words.new ≡ store_entry words.old stats.old hash depth score mv bound }
 {
-    if !refusals::table_right(words) {
-        return stats_refused(stats);
-    }
-    stats_given(table::store(words, stats, hash, depth, score, mv, bound))
+    sized(words)?;
+    *stats = table::store(words, *stats, hash, depth, score, mv, bound);
+    Ok(())
 }
 
 // The next age, and counters of 0.
-pub fn reset(words: &[u64], stats: Stats) -> StatsResult
-    ensures { result ≡ reset_entry words.now stats }
+#[tactic(auto, unfolding(crate::specs::Tables::reset_answer))]
+pub fn reset(words: &[u64], stats: &mut Stats) -> Result<(), Refusal>
+    ensures { told_stats result stats.new ≡ reset_entry words.now stats.old }
 {
-    if !refusals::table_right(words) {
-        return stats_refused(stats);
-    }
-    stats_given(stats.reset())
+    sized(words)?;
+    *stats = stats.reset();
+    Ok(())
 }
 
 // Words, age and counters of 0.
-pub fn clear(words: &mut [u64], stats: Stats) -> StatsResult
-    ensures { over result words.new ≡ clear_entry words.old stats }
+#[tactic(auto, unfolding(crate::specs::Tables::table_answer))]
+pub fn clear(words: &mut [u64], stats: &mut Stats) -> Result<(), Refusal>
+    ensures { over (told_stats result stats.new) words.new ≡ clear_entry words.old stats.old }
 {
-    if !refusals::table_right(words) {
-        return stats_refused(stats);
-    }
-    stats_given(table::clear(words))
+    sized(words)?;
+    *stats = table::clear(words);
+    Ok(())
 }
 
 // The entries of each bound whose move is not 0, as percentages of the table.
-pub fn occupancy(words: &[u64]) -> OccupancyResult
-    ensures occupied { result ≡ occupancy_entry words.now }
-    ensures exact { OccupancyExact words.now result }
+#[tactic(auto, unfolding(crate::specs::Tables::occupancy_answer), using(crate::proofs::TableAnswers::table_held))]
+pub fn occupancy(words: &[u64]) -> Result<Occupancy, Refusal>
+    ensures occupied { told_occupancy result ≡ occupancy_entry words.now }
+    ensures exact { OccupancyExact words.now (told_occupancy result) }
 {
-    if !refusals::table_right(words) {
-        return occupancy_refused();
-    }
-    let o = percentages::occupancy::occupied(words);
-    OccupancyResult {
-        refusal: 0,
-        occupancy: o,
-    }
+    sized(words)?;
+    Ok(percentages::occupancy::occupied(words))
 }

@@ -1,4 +1,4 @@
--- Which refusal a record gets, by the rows' tests; and what the rows give where there is none. Assumes nothing.
+-- What the rows of a record give where no refusal is given. Assumes nothing.
 use mathlib.Core.Path.{◌≡◌, refl}
 use mathlib.Core.Bool.{Bool, true, false}
 use mathlib.Core.List.{List}
@@ -8,25 +8,8 @@ use lib.IntN.{ℤ}
 use Rattle.tree.specs.Blocks.{nodes_of}
 use Rattle.refusals.specs.Rows.{node_right}
 use Rattle.refusals.specs.First.{first, unless, tree_rows}
-use Rattle.refusals.proofs.Given.{first_some, first_none}
 use Rattle.refusals.proofs.Meaning.{node_in}
 use Rattle.trees.specs.Records.{record_rows}
-
-module _ (inf : ℤ) (maxPly : ℕ) (t : List ℕ) (node r : ℕ) (er : r ≡ tree_rows inf maxPly t) where
-  pub rows_tree : (r ≡ 0 → ⊥) → r ≡ record_rows inf maxPly t node
-  unfolding record_rows
-  rows_tree n = rw (← er) (first_some r (unless (node_right t node) 7 0) n)
-
-  module _ (z : r ≡ 0) where
-    rest : unless (node_right t node) 7 0 ≡ record_rows inf maxPly t node
-    unfolding record_rows
-    rest = rw (← er) (first_none r (unless (node_right t node) 7 0) z)
-
-    pub rows_absent : node_right t node ≡ false → 7 ≡ record_rows inf maxPly t node
-    rows_absent e = rw e at rest
-
-    pub rows_none : node_right t node ≡ true → 0 ≡ record_rows inf maxPly t node
-    rows_none e = rw e at rest
 
 both : (n : ℕ) (b : Bool) → first n (unless b 7 0) ≡ 0 → (n ≡ 0) × (b ≡ true)
 both zero true e = (refl, refl)

@@ -1,57 +1,20 @@
--- `histories::malus` meets its contract: refused, or what the history's malus leaves. Assumes nothing.
-use mathlib.Core.Path.{◌≡◌, sym, ap, ◌∙◌}
-use mathlib.Core.List.{List}
-use Prim.Native.Nat.{ℕ}
-use native.Mathlib.Omega.{arith}
-use lib.IntN.{ℤ, nat_abs}
-use mir.Facts.{to_z-of_z}
-use Rattle.score.proofs.Bits.{said}
-use Rattle.history.specs.Entries.{malus_of}
-use Rattle.refusals.specs.First.{entry_rows}
-use Rattle.histories.proofs.HistoryAnswers.{Accepted, accepted, change-refused, change-made}
+-- `histories::malus` meets its contract: the negation of a delta is at most a quarter of HH_MAX. Assumes nothing.
+use Rattle.std.proofs.Common.{◌≡◌, ◌∙◌, ap, rules, pos, nat_abs, ℤ, ◌-ℤ◌, to_z, of_z, arith}
+use lib.IntN.{neg_ℤ, +ℤ_idl}
+use mir.Syntax.{w16}
+use mir.Val.{SFits}
+use mir.Facts.{to_z-of_z, Fits-nat_abs}
+use Rattle.history.specs.Gravity.{delta_of}
+use Rattle.history.proofs.Curve.{minus_le, minus16}
 use Rattle.histories.proofs.malus.Goals as goal
 
-pub returns-then-r-ne0 : goal.returns-then-r-ne0
-returns-then-r-ne0 c =
-    let told : c.entry_rows-r.result ≡ entry_rows c.args.history.now c.args.hh c.args.side = said (λ (z : ℤ). entry_rows c.args.history.now z c.args.side) c.ranges.hh.sfits c.entry_rows-r.ensures in
-    change-refused c.args.history.now c.args.hh c.args.side c.args.mv _ _ _ told c.if-r-ne0.true c.entry_refused.ensures
-
-pub unsigned-most-requires : goal.unsigned-most-requires
-unsigned-most-requires c =
-    let told : c.entry_rows-r.result ≡ entry_rows c.args.history.now c.args.hh c.args.side = said (λ (z : ℤ). entry_rows c.args.history.now z c.args.side) c.ranges.hh.sfits c.entry_rows-r.ensures in
-    let none : entry_rows c.args.history.now c.args.hh c.args.side ≡ 0 = sym (told) ∙ c.if-r-ne0.false in
-    let taken : Accepted c.args.history.now c.args.hh c.args.side = accepted c.args.history.now c.args.hh c.args.side none in
-    simp (to_z-of_z c.ranges.hh) taken.natural
-
-pub overflow_cast-s : goal.overflow_cast-s
-overflow_cast-s c =
-    let told : c.entry_rows-r.result ≡ entry_rows c.args.history.now c.args.hh c.args.side = said (λ (z : ℤ). entry_rows c.args.history.now z c.args.side) c.ranges.hh.sfits c.entry_rows-r.ensures in
-    let none : entry_rows c.args.history.now c.args.hh c.args.side ≡ 0 = sym (told) ∙ c.if-r-ne0.false in
-    let taken : Accepted c.args.history.now c.args.hh c.args.side = accepted c.args.history.now c.args.hh c.args.side none in
-    omega (arith, taken.side_most)
-
-pub malus-requires : goal.malus-requires
-malus-requires c =
-    let told : c.entry_rows-r.result ≡ entry_rows c.args.history.now c.args.hh c.args.side = said (λ (z : ℤ). entry_rows c.args.history.now z c.args.side) c.ranges.hh.sfits c.entry_rows-r.ensures in
-    let none : entry_rows c.args.history.now c.args.hh c.args.side ≡ 0 = sym (told) ∙ c.if-r-ne0.false in
-    let taken : Accepted c.args.history.now c.args.hh c.args.side = accepted c.args.history.now c.args.hh c.args.side none in
-    let most : c.unsigned-most.result ≡ nat_abs c.args.hh = simp (to_z-of_z c.ranges.hh) at c.unsigned-most.ensures in
-    let t = taken in
-    (t.sized, (t.side_most, omega (arith, most, t.above)))
-
-pub entry_given-requires : goal.entry_given-requires
-entry_given-requires c =
-    let told : c.entry_rows-r.result ≡ entry_rows c.args.history.now c.args.hh c.args.side = said (λ (z : ℤ). entry_rows c.args.history.now z c.args.side) c.ranges.hh.sfits c.entry_rows-r.ensures in
-    let none : entry_rows c.args.history.now c.args.hh c.args.side ≡ 0 = sym (told) ∙ c.if-r-ne0.false in
-    let taken : Accepted c.args.history.now c.args.hh c.args.side = accepted c.args.history.now c.args.hh c.args.side none in
-    let t = taken in
-    (c.malus.auto.history ∙ t.sized, t.side_most)
-
-pub returns : goal.returns
-returns c =
-    let made : List ℤ = malus_of (nat_abs c.args.hh) c.args.history.now c.args.side c.args.mv c.args.depth in
-    let told : c.entry_rows-r.result ≡ entry_rows c.args.history.now c.args.hh c.args.side = said (λ (z : ℤ). entry_rows c.args.history.now z c.args.side) c.ranges.hh.sfits c.entry_rows-r.ensures in
-    let none : entry_rows c.args.history.now c.args.hh c.args.side ≡ 0 = sym (told) ∙ c.if-r-ne0.false in
-    let most : c.unsigned-most.result ≡ nat_abs c.args.hh = simp (to_z-of_z c.ranges.hh) at c.unsigned-most.ensures in
-    let as-made : c.malus.new.history ≡ made = (simp (to_z-of_z c.ranges.depth) at c.malus.ensures) ∙ ap (λ (h : ℕ). malus_of h c.args.history.now c.args.side c.args.mv c.args.depth) (most) in
-    change-made c.args.history.now c.args.hh c.args.side c.args.mv made _ none _ as-made c.entry_given.ensures
+pub change-requires : goal.change-requires
+change-requires c =
+    let n = delta_of (nat_abs c.args.hh) c.args.depth in
+    let f : SFits w16 c.delta_score.result = search rules in
+    let e : c.delta_score.result ≡ pos n = simp (to_z-of_z c.ranges.hh, to_z-of_z c.ranges.depth) at c.delta_score.ensures in
+    let fits : SFits w16 (neg_ℤ (pos n)) = minus16 (nat_abs c.args.hh) c.args.depth (omega (arith, Fits-nat_abs {w' = w16} tt c.ranges.hh)) in
+    let negated : to_z w16 (of_z w16 (pos 0 -ℤ to_z w16 (of_z w16 c.delta_score.result))) ≡ neg_ℤ (pos n) =
+    ap (λ (z : ℤ). to_z w16 (of_z w16 (pos 0 -ℤ z))) (to_z-of_z f ∙ e)
+    ∙ ap (λ (z : ℤ). to_z w16 (of_z w16 z)) (+ℤ_idl (neg_ℤ (pos n))) ∙ to_z-of_z fits in
+    rw negated (simp (to_z-of_z c.ranges.hh) (minus_le (nat_abs c.args.hh) c.args.depth))
