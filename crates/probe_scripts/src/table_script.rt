@@ -52,7 +52,7 @@ fn entry_fields(line: &mut Line, e: Entry) {
     line.field(b" depth ", e.depth);
     line.field(b" score ", e.score);
     line.field(b" move ", e.mv);
-    line.field(b" bound ", u8::from(e.bound));
+    line.field(b" bound ", e.bound as u8);
     line.field(b" entry-age ", e.age);
 }
 
@@ -95,12 +95,18 @@ fn stats_line(
     finish(rt, line, words, stats)
 }
 
-// A store; a bound that is none of the three is a bad step.
-fn store(rt: &impl Print, words: &mut [u64], stats: &mut Stats, t: Step) -> Result<(), Stop> {
-    if t.h > 2 {
-        return Err(Stop::BadStep);
+// A bound that is none of the three is a bad step.
+fn bound_of(number: u16) -> Result<Bound, Stop> {
+    match number {
+        0 => Ok(Bound::Exact),
+        1 => Ok(Bound::Lower),
+        2 => Ok(Bound::Upper),
+        _ => Err(Stop::BadStep),
     }
-    let bound = Bound::from(t.h as u8);
+}
+
+fn store(rt: &impl Print, words: &mut [u64], stats: &mut Stats, t: Step) -> Result<(), Stop> {
+    let bound = bound_of(t.h)?;
     let told = tables::store(words, stats, t.a, t.d, t.s, t.m, bound);
     stats_line(rt, b"store ", words, *stats, told)
 }

@@ -4,10 +4,12 @@
 ghost use Rattle.std.specs.Prelude.{◌≡◌, take, OnOk};
 ghost use Rattle.std.specs.Io.KnownBytes.{Appends};
 ghost use Rattle.io.specs.Counts.{IsPrefixLen};
+ghost use Rattle.desk.specs.RootEntry.{told_root};
 ghost use Rattle.program.specs.Program.{program_settings, fresh_stats, program_entry, program_line};
 
 use desk::root_search;
-use results::RootResult;
+use refusal::Refusal;
+use results::RootAnswer;
 use state::Settings;
 use std::io;
 use std::io::Write;
@@ -44,13 +46,14 @@ pub fn fresh() -> Stats
     }
 }
 
-// Depths 1 to 30, over a table of 4,096 entries and a history of its own.
-pub fn search(tree: &[u8]) -> RootResult
-    ensures { result ≡ (program_entry tree.now).it }
+// Depths 1 to 30, over a table of 4,096 entries and a history of its own. The age and counters after it are the definition's.
+pub fn search(tree: &[u8]) -> Result<RootAnswer, Refusal>
+    ensures { let whole = (program_entry tree.now).it in told_root result whole.stats ≡ whole }
 {
     let mut words = [0u64; 8192];
     let mut history = [0i16; 8192];
-    root_search::search_root(tree, &mut words, &mut history, settings(), fresh(), 1, 31)
+    let mut stats = fresh();
+    root_search::search_root(tree, &mut words, &mut history, settings(), &mut stats, 1, 31)
 }
 
 // The line that answers a tree, at the start of out; how many bytes it has.

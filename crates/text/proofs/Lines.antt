@@ -1,10 +1,14 @@
 -- The parts of a line, put one behind the other. Assumes nothing.
-use Rattle.std.proofs.Common.{◌≡◌, ℕ, ◌<◌, ◌^◌, Bool, true, false, List, [], ◌++◌, ap, ◌∙◌, append_assoc, arith}
+use Rattle.std.proofs.Common.{refl, ◌≡◌, ℕ, ◌<◌, ◌^◌, Bool, true, false, List, [], ◌++◌, ap, ◌∙◌, append_assoc, arith}
 use Rattle.std.specs.Fmt.{decimal as printed, signed_decimal as printed_signed}
 use mir.Val.{bool_byte}
 use lib.Signed.{mag}
-use Rattle.results.specs.declared.RootResult.{RootResult}
-use Rattle.text.specs.Text.{ascii, decimal, signed, mark_of, found_text, spent_text, answer_line, refused_line}
+use Rattle.refusal.specs.declared.Refusal.{Refusal}
+use Rattle.refusal.specs.declared.Refusal.TheVariants.{Length, Blocks, Layout, Fields, Levels, Settings, Start, Sizes, Entries, Clock, Rate}
+use Rattle.refusal.specs.Number.{number_of}
+use Rattle.table.specs.declared.Stats.{Stats}
+use Rattle.desk.specs.RootEntry.{RootResult, root_refused}
+use Rattle.text.specs.Text.{ascii, decimal, signed, mark_of, found_text, spent_text, answer_line, refused_line, line_of, line_by}
 use Rattle.text.proofs.Digits.{same_decimal, same_signed}
 
 pub refused : {a b : List ℕ} (n : ℕ) → n < 2 ^ 64 → a ≡ [] ++ (ascii "refused " ++ printed n) → b ≡ a ++ ascii "\n" → b ≡ refused_line n
@@ -43,3 +47,18 @@ answered {a} {b} {c} {d} {e} {f} r fit p q s t u v =
     below : (b : Bool) → printed (bool_byte b) ≡ decimal (mark_of b)
     below true = same_decimal 1 (omega arith)
     below false = same_decimal 0 (omega arith)
+
+-- a refusal's line is the number's
+pub line_refused : (r : Refusal) (c : Stats) → refused_line (number_of r) ≡ line_of (root_refused (number_of r) c)
+unfolding line_by
+line_refused Length c = refl
+line_refused Blocks c = refl
+line_refused Layout c = refl
+line_refused Fields c = refl
+line_refused Levels c = refl
+line_refused Settings c = refl
+line_refused Start c = refl
+line_refused Sizes c = refl
+line_refused Entries c = refl
+line_refused Clock c = refl
+line_refused Rate c = refl

@@ -2,7 +2,7 @@
 use Rattle.std.specs.Prelude.{Bool, true, false, cond, List, [], ◌∷◌, ◌++◌, ℕ, zero, suc, ◌+◌, ◌/◌, ◌%◌, ltb, ℤ, pos, negsuc}
 use Prim.Native.Char.{code}
 use Prim.Native.String.{String, [] as none, ◌∷◌ as ◌then◌}
-use Rattle.results.specs.declared.RootResult.{RootResult}
+use Rattle.desk.specs.RootEntry.{RootResult}
 
 -- the bytes of a text in ASCII
 unfoldable pub ascii : String → List ℕ

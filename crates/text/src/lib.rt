@@ -1,13 +1,16 @@
 // The text of the line that answers a search.
 #![tactic(auto)]
 
-ghost use Rattle.std.specs.Prelude.{◌≡◌, ◌++◌, ◌+◌, ◌≤◌, length};
+ghost use Rattle.std.specs.Prelude.{Ok, ◌≡◌, ◌++◌, ◌+◌, ◌≤◌, length};
 ghost use Rattle.arrayvec.specs.ArrayString.{array_string_len};
+ghost use Rattle.table.specs.declared.Stats.{Stats};
+ghost use Rattle.desk.specs.RootEntry.{told_root};
 ghost use Rattle.text.specs.Text.{ascii, answer_line, refused_line, line_of};
 
 use arrayvec::ArrayString;
 use itoa::{Buffer, Integer};
-use results::RootResult;
+use refusal::Refusal;
+use results::RootAnswer;
 
 // The longest line has under 80 bytes, so a line has room for each.
 pub type Line = ArrayString<160>;
@@ -33,26 +36,25 @@ fn refused_line(refusal: u8) -> Line
 }
 
 // What was found, score and move; then how it was searched, depth, nodes and stop mark.
-fn answer_line(r: RootResult) -> Line
-    ensures { result.bytes ≡ answer_line r }
+fn answer_line(a: RootAnswer) -> Line
+    ensures { (c : Stats) → result.bytes ≡ answer_line (told_root (Ok a) c) }
 {
     let mut line = Line::new();
-    put(&mut line, "score ", r.score);
-    put(&mut line, " move ", r.mv);
-    put(&mut line, " depth ", r.depth);
-    put(&mut line, " nodes ", r.nodes);
-    put(&mut line, " stopped ", u8::from(r.stopped));
+    put(&mut line, "score ", a.score);
+    put(&mut line, " move ", a.mv);
+    put(&mut line, " depth ", a.depth);
+    put(&mut line, " nodes ", a.nodes);
+    put(&mut line, " stopped ", u8::from(a.stopped));
     line.push_str("\n");
     line
 }
 
-// The line that answers a search's result.
-#[tactic(auto, unfolding(crate::specs::Text::line_by))]
-pub fn line(r: RootResult) -> Line
-    ensures { result.bytes ≡ line_of r }
+// The line that answers what a search told; the age and counters after it are not printed.
+pub fn line(told: Result<RootAnswer, Refusal>) -> Line
+    ensures { (c : Stats) → result.bytes ≡ line_of (told_root told c) }
 {
-    if r.refusal != 0 {
-        return refused_line(r.refusal);
+    match told {
+        Ok(a) => answer_line(a),
+        Err(r) => refused_line(r.number()),
     }
-    answer_line(r)
 }
