@@ -69,12 +69,7 @@ fn one(rt: &impl Print, history: &mut [i16], hh_max: i16, t: Step) -> Result<(),
     }
 }
 
-pub fn run(
-    rt: &impl Print,
-    hh_max: i16,
-    history: &mut [i16],
-    steps: &[u8],
-) -> Result<(), Stop> {
+pub fn run(rt: &impl Print, hh_max: i16, history: &mut [i16], steps: &[u8]) -> Result<(), Stop> {
     for i in 0..steps.len() / 24 {
         one(rt, history, hh_max, step::at(steps, i))?;
     }

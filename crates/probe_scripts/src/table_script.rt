@@ -157,12 +157,7 @@ fn one(rt: &impl Print, words: &mut [u64], stats: &mut Stats, t: Step) -> Result
     }
 }
 
-pub fn run(
-    rt: &impl Print,
-    mut stats: Stats,
-    words: &mut [u64],
-    steps: &[u8],
-) -> Result<(), Stop> {
+pub fn run(rt: &impl Print, mut stats: Stats, words: &mut [u64], steps: &[u8]) -> Result<(), Stop> {
     for i in 0..steps.len() / 24 {
         one(rt, words, &mut stats, step::at(steps, i))?;
     }

@@ -53,7 +53,15 @@ pub fn search(tree: &[u8]) -> Result<RootAnswer, Refusal>
     let mut words = [0u64; 8192];
     let mut history = [0i16; 8192];
     let mut stats = fresh();
-    root_search::search_root(tree, &mut words, &mut history, settings(), &mut stats, 1, 31)
+    root_search::search_root(
+        tree,
+        &mut words,
+        &mut history,
+        settings(),
+        &mut stats,
+        1,
+        31,
+    )
 }
 
 // The line that answers a tree, at the start of out; how many bytes it has.
