@@ -12,31 +12,30 @@ use Rattle.std.specs.Io.{ReadsAtMost}
 use Rattle.std.specs.Io.KnownBytes.{Consumes, IsAtEnd, ReadConsumes}
 use Rattle.std.specs.declared.option.Option.{Option}
 use Rattle.std.specs.declared.result.Result.{Result}
-use Rattle.adjudicate.specs.declared.Step.TheVariants.{More, End, Failed}
 use Rattle.adjudicate.specs.Input.{step_of}
 
-pub step_more : {E : Type 0} (r : Result ℕ E) (k n : ℕ) → r ≡ Ok k → (k ≡ 0 → ⊥) → step_of r n ≡ More (min k n)
+pub step_more : {E : Type 0} (r : Result ℕ E) (k n : ℕ) → r ≡ Ok k → (k ≡ 0 → ⊥) → step_of r n ≡ Ok (Some (min k n))
 unfolding step_of
 step_more r zero n e h = absurd (h refl)
 step_more r (suc k) n e h = rw e
 
-pub step_failed : {E : Type 0} (r : Result ℕ E) (x : E) (n : ℕ) → r ≡ Err x → step_of r n ≡ Failed
+pub step_failed : {E : Type 0} (r : Result ℕ E) (x : E) (n : ℕ) → r ≡ Err x → step_of r n ≡ Err x
 unfolding step_of
 step_failed r x n e = rw e
 
-pub step_end : {E : Type 0} (r : Result ℕ E) (k n : ℕ) → r ≡ Ok k → k ≡ 0 → step_of r n ≡ End
+pub step_end : {E : Type 0} (r : Result ℕ E) (k n : ℕ) → r ≡ Ok k → k ≡ 0 → step_of r n ≡ Ok None
 unfolding step_of
 step_end r zero n e h = rw e
 step_end r (suc k) n e h = absurd (omega arith)
 
-takes : {E : Type 0} (r : Result ℕ E) (n m : ℕ) → step_of r n ≡ More m → 0 < n → (0 < m) × (m ≤ n)
+takes : {E : Type 0} (r : Result ℕ E) (n m : ℕ) → step_of r n ≡ Ok (Some m) → 0 < n → (0 < m) × (m ≤ n)
 unfolding step_of
 takes (Ok zero) n m e l = let z : ◌≡◌ {A = ℕ} 0 1 = cc in absurd (omega arith)
 takes (Ok (suc k)) n m e l = let q : min (suc k) n ≡ m = cc in (omega arith, omega arith)
 takes (Err x) n m e l = let z : ◌≡◌ {A = ℕ} 0 1 = cc in absurd (omega arith)
 
 -- a read into the rest of a buffer takes a byte at least, and no more than there is room for
-pub step_takes : {E : Type 0} (r : Result ℕ E) (buf : List ℕ) (done m : ℕ) → step_of r (length (take (length buf - done) (drop done buf))) ≡ More m → done < length buf
+pub step_takes : {E : Type 0} (r : Result ℕ E) (buf : List ℕ) (done m : ℕ) → step_of r (length (take (length buf - done) (drop done buf))) ≡ Ok (Some m) → done < length buf
     → (0 < m) × (done + m ≤ length buf)
 step_takes r buf done m e l =
     let room : length (take (length buf - done) (drop done buf)) ≡ length buf - done = length-take-le (length buf - done) (drop done buf) (simp length-drop (omega arith)) in
@@ -56,7 +55,7 @@ consumes_none None x = tt
 consumes_none (Some a) x = refl
 
 -- what a step takes is what the reader had first
-pub step_consumes : {E : Type 0} (r : Result ℕ E) (old new : Option (List ℕ)) (part : List ℕ) (n m : ℕ) → step_of r n ≡ More m → n ≡ length part
+pub step_consumes : {E : Type 0} (r : Result ℕ E) (old new : Option (List ℕ)) (part : List ℕ) (n m : ℕ) → step_of r n ≡ Ok (Some m) → n ≡ length part
     → ReadsAtMost r part → ReadConsumes old new r part → (m ≤ length part) × Consumes old new (take m part)
 unfolding step_of
 step_consumes (Ok zero) old new part n m e l a p = let z : ◌≡◌ {A = ℕ} 0 1 = cc in absurd (omega arith)
@@ -67,7 +66,7 @@ step_consumes (Ok (suc k)) old new part n m e l a p =
 step_consumes (Err x) old new part n m e l a p = let z : ◌≡◌ {A = ℕ} 0 1 = cc in absurd (omega arith)
 
 -- where a read says that the input ended, nothing is left
-pub step_ended : {E : Type 0} (r : Result ℕ E) (old new : Option (List ℕ)) (part : List ℕ) (n : ℕ) → step_of r n ≡ End → 0 < length part
+pub step_ended : {E : Type 0} (r : Result ℕ E) (old new : Option (List ℕ)) (part : List ℕ) (n : ℕ) → step_of r n ≡ Ok None → 0 < length part
     → ReadConsumes old new r part → Consumes old new (take 0 part) × IsAtEnd new
 unfolding step_of
 step_ended (Ok zero) old new part n e l p = (p.0, p.1 refl l)

@@ -7,6 +7,14 @@ ghost use Rattle.std.specs.Prelude.{◌≤◌, length};
 use std::io;
 use std::io::{Read, Write};
 
+// Why a run ends: the input ended; it was cut short, or announced a longer tree than the buffer holds; a line can't be written.
+#[derive(Clone, Copy)]
+enum Stop {
+    Ended,
+    BadInput,
+    Unwritten,
+}
+
 // Reads until buf is full, the input ends or a read fails; how many bytes it put at the start of buf.
 fn read_full<R: Read>(from: &mut R, buf: &mut [u8]) -> usize
     ensures { result ≤ length buf.new }
@@ -14,30 +22,28 @@ fn read_full<R: Read>(from: &mut R, buf: &mut [u8]) -> usize
     let mut done = 0;
     while done < buf.len() {
         match from.read(&mut buf[done..]) {
-            Ok(0) => break,
+            Ok(0) | Err(_) => break,
             Ok(n) => done += n,
-            Err(_) => break,
         }
     }
     done
 }
 
-// The line that ends a run whose input is cut short, or announces a longer tree than the buffer holds.
-fn bad_input<W: Write>(to: &mut W) -> bool {
-    let _ = to.write_all(b"bad input\n");
-    false
-}
-
-// False where the line can't be written.
-fn numbered<W: Write>(to: &mut W, number: u64, tree: &[u8]) -> bool {
+// A number that can't be written is left out.
+fn numbered<W: Write>(to: &mut W, number: u64, tree: &[u8]) -> Result<(), Stop> {
     let _ = write!(to, "{number} ");
-    program::print(to, tree)
+    program::print(to, tree).map_err(|_| Stop::Unwritten)
 }
 
-// Fills the part that a tree takes, and answers; false where the run ends.
-fn answer<R: Read, W: Write>(from: &mut R, to: &mut W, tree: &mut [u8], number: u64) -> bool {
+// Fills the part that a tree takes, and answers.
+fn answer<R: Read, W: Write>(
+    from: &mut R,
+    to: &mut W,
+    tree: &mut [u8],
+    number: u64,
+) -> Result<(), Stop> {
     if read_full(from, tree) != tree.len() {
-        return bad_input(to);
+        return Err(Stop::BadInput);
     }
     numbered(to, number, tree)
 }
@@ -48,42 +54,40 @@ fn body<R: Read, W: Write>(
     buf: &mut [u8],
     length: usize,
     number: u64,
-) -> bool {
+) -> Result<(), Stop> {
     if length > buf.len() {
-        return bad_input(to);
+        return Err(Stop::BadInput);
     }
     answer(from, to, &mut buf[..length], number)
 }
 
-fn length_of(head: &[u8; 4]) -> usize {
-    record::bytes::le32(head, 0) as usize
-}
-
-// One tree; false where the run ends.
-fn request<R: Read, W: Write>(from: &mut R, to: &mut W, buf: &mut [u8], number: u64) -> bool {
+// One tree.
+fn request<R: Read, W: Write>(
+    from: &mut R,
+    to: &mut W,
+    buf: &mut [u8],
+    number: u64,
+) -> Result<(), Stop> {
     let mut head = [0u8; 4];
-    let got = read_full(from, &mut head);
-    if got == 0 {
-        return false;
+    match read_full(from, &mut head) {
+        0 => Err(Stop::Ended),
+        4 => body(from, to, buf, u32::from_le_bytes(head) as usize, number),
+        _ => Err(Stop::BadInput),
     }
-    if got < 4 {
-        return bad_input(to);
-    }
-    body(from, to, buf, length_of(&head), number)
 }
 
-// Nothing says that the input ends, so the loop ends at a number that no run reaches.
-fn requests<R: Read, W: Write>(from: &mut R, to: &mut W, buf: &mut [u8]) {
-    let mut number = 0;
-    while number < u64::MAX {
-        if !request(from, to, buf, number) {
-            return;
-        }
-        number += 1;
+// Nothing says that the input ends, so the trees are numbered up to a number that no run reaches.
+fn requests<R: Read, W: Write>(from: &mut R, to: &mut W, buf: &mut [u8]) -> Result<(), Stop> {
+    for number in 0..u64::MAX {
+        request(from, to, buf, number)?;
     }
+    Ok(())
 }
 
 fn main(rt: HostRuntime) {
     let mut buf = [0u8; 66048];
-    requests(&mut rt.reader(), &mut io::writer(&rt), &mut buf);
+    let mut to = io::writer(&rt);
+    if let Err(Stop::BadInput) = requests(&mut rt.reader(), &mut to, &mut buf) {
+        let _ = to.write_all(b"bad input\n");
+    }
 }

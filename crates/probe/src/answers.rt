@@ -1,29 +1,38 @@
 // The answers of kinds 1 to 4: root search, node search, tree check, node record.
 use crate::header::Header;
 use desk::{node_search, root_search};
-use probe_text::{fnv, text};
-use results::{NodeResult, RootResult};
+use probe_text::fnv;
+use probe_text::stop::Stop;
+use probe_text::text::Line;
+use results::{NodeAnswer, RootAnswer};
 use table::Stats;
 
 // What was lent, as it stands after the call.
-fn lent(line: &mut [u8; 512], at: usize, s: Stats, words: &[u64], history: &[i16]) -> usize {
-    let mut n = text::stats(line, at, s);
-    n = text::hex_field(line, n, b" table ", fnv::of_words(words));
-    text::hex_field(line, n, b" history ", fnv::of_entries(history))
+fn lent(line: &mut Line, stats: Stats, words: &[u64], history: &[i16]) {
+    line.stats(stats);
+    line.hex_field(b" table ", fnv::sum(words));
+    line.hex_field(b" history ", fnv::sum(history));
 }
 
-fn root_line(rt: &impl Print, r: RootResult, words: &[u64], history: &[i16]) -> bool {
-    let mut line = [0u8; 512];
-    let stats = r.stats;
-    let mut n = text::field(&mut line, 0, b"root ", r.refusal as u64);
-    n = text::signed_field(&mut line, n, b" score ", r.score);
-    n = text::field(&mut line, n, b" move ", r.mv as u64);
-    n = text::field(&mut line, n, b" depth ", r.depth as u64);
-    n = text::field(&mut line, n, b" nodes ", r.nodes);
-    n = text::flag_field(&mut line, n, b" stopped ", r.stopped);
-    n = lent(&mut line, n, stats, words, history);
-    text::write(rt, &mut line, n)
+fn root_line(refusal: u8, a: RootAnswer) -> Line {
+    let mut line = Line::new();
+    line.field(b"root ", refusal);
+    line.field(b" score ", a.score);
+    line.field(b" move ", a.mv);
+    line.field(b" depth ", a.depth);
+    line.field(b" nodes ", a.nodes);
+    line.field(b" stopped ", u8::from(a.stopped));
+    line
 }
+
+// A refused search found nothing.
+const NO_ROOT: RootAnswer = RootAnswer {
+    score: 0,
+    mv: 0,
+    depth: 0,
+    nodes: 0,
+    stopped: false,
+};
 
 pub fn root(
     rt: &impl Print,
@@ -31,23 +40,32 @@ pub fn root(
     tree: &[u8],
     words: &mut [u64],
     history: &mut [i16],
-) -> bool {
-    let set = h.set;
-    let stats = h.stats;
-    let r = root_search::search_root(tree, words, history, set, stats, h.start, h.end);
-    root_line(rt, r, words, history)
+) -> Result<(), Stop> {
+    let mut stats = h.stats;
+    let told = root_search::search_root(tree, words, history, h.set, &mut stats, h.start, h.end);
+    let mut line = match told {
+        Ok(a) => root_line(0, a),
+        Err(r) => root_line(r.number(), NO_ROOT),
+    };
+    lent(&mut line, stats, words, history);
+    line.write(rt)?;
+    Ok(())
 }
 
-fn node_line(rt: &impl Print, r: NodeResult, words: &[u64], history: &[i16]) -> bool {
-    let mut line = [0u8; 512];
-    let stats = r.stats;
-    let mut n = text::field(&mut line, 0, b"node ", r.refusal as u64);
-    n = text::signed_field(&mut line, n, b" score ", r.score);
-    n = text::field(&mut line, n, b" nodes ", r.nodes);
-    n = text::flag_field(&mut line, n, b" stopped ", r.stopped);
-    n = lent(&mut line, n, stats, words, history);
-    text::write(rt, &mut line, n)
+fn node_line(refusal: u8, a: NodeAnswer) -> Line {
+    let mut line = Line::new();
+    line.field(b"node ", refusal);
+    line.field(b" score ", a.score);
+    line.field(b" nodes ", a.nodes);
+    line.field(b" stopped ", u8::from(a.stopped));
+    line
 }
+
+const NO_NODE: NodeAnswer = NodeAnswer {
+    score: 0,
+    nodes: 0,
+    stopped: false,
+};
 
 pub fn node(
     rt: &impl Print,
@@ -55,46 +73,43 @@ pub fn node(
     tree: &[u8],
     words: &mut [u64],
     history: &mut [i16],
-) -> bool {
-    let set = h.set;
-    let stats = h.stats;
-    let at = h.at;
-    let r = node_search::search_node(tree, words, history, set, stats, at);
-    node_line(rt, r, words, history)
+) -> Result<(), Stop> {
+    let mut stats = h.stats;
+    let told = node_search::search_node(tree, words, history, h.set, &mut stats, h.at);
+    let mut line = match told {
+        Ok(a) => node_line(0, a),
+        Err(r) => node_line(r.number(), NO_NODE),
+    };
+    lent(&mut line, stats, words, history);
+    line.write(rt)?;
+    Ok(())
 }
 
-pub fn tree(rt: &impl Print, h: Header, tree: &[u8]) -> bool {
-    let set = h.set;
-    let r = trees::check_tree(tree, set.inf, set.max_ply);
-    let mut line = [0u8; 512];
-    let n = text::field(&mut line, 0, b"tree ", r as u64);
-    text::write(rt, &mut line, n)
+pub fn tree(rt: &impl Print, h: Header, tree: &[u8]) -> Result<(), Stop> {
+    let told = trees::check_tree(tree, h.set.inf, h.set.max_ply);
+    let mut line = Line::new();
+    line.field(b"tree ", refusal::number_told(told));
+    line.write(rt)?;
+    Ok(())
 }
 
 // The bytes of a record as hex digits; nothing for the empty part.
-fn record_bytes(line: &mut [u8; 512], at: usize, record: &[u8]) -> usize {
-    if record.len() == 0 {
-        return at;
+fn record_bytes(line: &mut Line, record: &[u8]) {
+    if !record.is_empty() {
+        line.byte(b' ');
     }
-    let mut n = text::byte(line, at, b' ');
-    let mut i = 0;
-    while i < record.len() {
-        n = text::hex_byte(line, n, record[i]);
-        i += 1;
+    for b in record {
+        line.hex(u64::from(*b), 2);
     }
-    n
 }
 
-pub fn record(rt: &impl Print, h: Header, tree: &[u8]) -> bool {
+pub fn record(rt: &impl Print, h: Header, tree: &[u8]) -> Result<(), Stop> {
     let set = h.set;
-    let at = h.at;
-    let r = trees::record_refusal(tree, set.inf, set.max_ply, at.node);
-    let mut line = [0u8; 512];
-    let mut n = text::field(&mut line, 0, b"record ", r as u64);
-    n = record_bytes(
-        &mut line,
-        n,
-        trees::record(tree, set.inf, set.max_ply, at.node),
-    );
-    text::write(rt, &mut line, n)
+    let node = h.at.node;
+    let told = trees::record_refusal(tree, set.inf, set.max_ply, node);
+    let mut line = Line::new();
+    line.field(b"record ", refusal::number_told(told));
+    record_bytes(&mut line, trees::record(tree, set.inf, set.max_ply, node));
+    line.write(rt)?;
+    Ok(())
 }

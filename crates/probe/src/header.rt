@@ -5,6 +5,7 @@ ghost use Rattle.probe.specs.Header.{odd, settings_of, stats_of, start_of, sent_
 
 use desk::node_search::Start;
 use probe_input::input::Sent;
+use probe_text::stop::Stop;
 use record::bytes;
 use state::Settings;
 use table::Stats;
@@ -26,6 +27,35 @@ pub struct Header {
     pub sent: Sent,
 }
 
+// What a request asks for.
+#[derive(Clone, Copy)]
+pub enum Kind {
+    Root,
+    Node,
+    Tree,
+    Record,
+    Clock,
+    Table,
+    History,
+}
+
+impl TryFrom<u8> for Kind {
+    type Error = Stop;
+
+    fn try_from(byte: u8) -> Result<Kind, Stop> {
+        match byte {
+            1 => Ok(Kind::Root),
+            2 => Ok(Kind::Node),
+            3 => Ok(Kind::Tree),
+            4 => Ok(Kind::Record),
+            5 => Ok(Kind::Clock),
+            6 => Ok(Kind::Table),
+            7 => Ok(Kind::History),
+            _ => Err(Stop::BadRequest),
+        }
+    }
+}
+
 // Whether a byte is odd: its lowest bit. A caller divides for the others.
 fn bit(x: u8) -> bool
     ensures { result ≡ odd x }
@@ -37,9 +67,10 @@ fn signed16(head: &[u8; 96], at: usize) -> i16
     requires { at + 2 ≤ 96 }
     ensures { result ≡ signed16_at head.now at }
 {
-    score::of_bits16(bytes::le16(head, at))
+    bytes::le16(head, at).cast_signed()
 }
 
+#[tactic(auto, unfolding(crate::specs::Header::settings_of))]
 fn settings_of(head: &[u8; 96]) -> Settings
     ensures { result ≡ settings_of head.now }
 {
@@ -59,6 +90,7 @@ fn settings_of(head: &[u8; 96]) -> Settings
     }
 }
 
+#[tactic(auto, unfolding(crate::specs::Header::stats_of))]
 fn stats_of(head: &[u8; 96]) -> Stats
     ensures { result ≡ stats_of head.now }
 {
@@ -72,6 +104,7 @@ fn stats_of(head: &[u8; 96]) -> Stats
     }
 }
 
+#[tactic(auto, unfolding(crate::specs::Header::start_of))]
 fn start_of(head: &[u8; 96]) -> Start
     ensures { result ≡ start_of head.now }
 {
@@ -79,11 +112,12 @@ fn start_of(head: &[u8; 96]) -> Start
         node: bytes::le64(head, 24),
         alpha: signed16(head, 12),
         beta: signed16(head, 14),
-        depth: score::of_bits8(head[9]),
+        depth: head[9].cast_signed(),
         ply: bytes::le64(head, 32),
     }
 }
 
+#[tactic(auto, unfolding(crate::specs::Header::sent_of))]
 fn sent_of(head: &[u8; 96]) -> Sent
     ensures { result ≡ sent_of head.now }
 {
@@ -93,6 +127,7 @@ fn sent_of(head: &[u8; 96]) -> Sent
     }
 }
 
+#[tactic(auto, unfolding(crate::specs::Header::header_of))]
 pub fn read(head: &[u8; 96]) -> Header
     ensures { result ≡ header_of head.now }
 {
@@ -101,8 +136,8 @@ pub fn read(head: &[u8; 96]) -> Header
         set: settings_of(head),
         stats: stats_of(head),
         at: start_of(head),
-        start: score::of_bits8(head[9]),
-        end: score::of_bits8(head[10]),
+        start: head[9].cast_signed(),
+        end: head[10].cast_signed(),
         tree: bytes::le32(head, 80) as usize,
         words: bytes::le32(head, 84) as usize,
         entries: bytes::le32(head, 88) as usize,
@@ -112,42 +147,24 @@ pub fn read(head: &[u8; 96]) -> Header
 }
 
 // A known kind, and steps in a script alone.
+#[tactic(auto, unfolding(crate::specs::Header::kind_right))]
 fn kind_right(h: Header) -> bool
     ensures { result ≡ kind_right h }
 {
-    if h.kind < 1 {
-        return false;
-    }
-    if h.kind > 7 {
-        return false;
-    }
-    if h.kind > 4 {
-        return true;
-    }
-    h.steps == 0
+    1 <= h.kind && h.kind <= 7 && (4 < h.kind || h.steps == 0)
 }
 
 // No length over its maximum.
+#[tactic(auto, unfolding(crate::specs::Header::lengths_right))]
 fn lengths_right(h: Header) -> bool
     ensures { result ≡ lengths_right h }
 {
-    if h.tree > 66048 {
-        return false;
-    }
-    if h.words > 131074 {
-        return false;
-    }
-    if h.entries > 8193 {
-        return false;
-    }
-    h.steps <= 4096
+    h.tree <= 66048 && h.words <= 131074 && h.entries <= 8193 && h.steps <= 4096
 }
 
+#[tactic(auto, unfolding(crate::specs::Header::header_right))]
 pub fn right(h: Header) -> bool
     ensures { result ≡ header_right h }
 {
-    if !kind_right(h) {
-        return false;
-    }
-    lengths_right(h)
+    kind_right(h) && lengths_right(h)
 }

@@ -7,14 +7,14 @@ mod header; // header.rt: a request's header
 ghost use Rattle.std.specs.Prelude.{◌≡◌, length};
 ghost use Rattle.probe.specs.Room.{Roomy};
 
-use header::Header;
+use header::{Header, Kind};
 use probe_input::input;
-use probe_input::input::Filled;
+use probe_input::input::Unfilled;
 use probe_scripts::{clock_script, history_script, table_script};
-use probe_text::text;
+use probe_text::stop::Stop;
 use std::io::Input;
 
-// Answers a request whose body has been read; false where the run ends.
+// Answers a request whose body has been read.
 fn answer(
     rt: &impl Print,
     h: Header,
@@ -22,53 +22,60 @@ fn answer(
     words: &mut [u64],
     history: &mut [i16],
     steps: &[u8],
-) -> bool {
-    let kind = h.kind;
-    let set = h.set;
-    let stats = h.stats;
-    match kind {
-        1 => answers::root(rt, h, tree, words, history),
-        2 => answers::node(rt, h, tree, words, history),
-        3 => answers::tree(rt, h, tree),
-        4 => answers::record(rt, h, tree),
-        5 => clock_script::run(rt, steps),
-        6 => table_script::run(rt, stats, words, steps),
-        _ => history_script::run(rt, set.hh_max, history, steps),
+) -> Result<(), Stop> {
+    match Kind::try_from(h.kind)? {
+        Kind::Root => answers::root(rt, h, tree, words, history),
+        Kind::Node => answers::node(rt, h, tree, words, history),
+        Kind::Tree => answers::tree(rt, h, tree),
+        Kind::Record => answers::record(rt, h, tree),
+        Kind::Clock => clock_script::run(rt, steps),
+        Kind::Table => table_script::run(rt, h.stats, words, steps),
+        Kind::History => history_script::run(rt, h.set.hh_max, history, steps),
     }
 }
 
-// Reads the rest of a request and answers it; false where the run ends.
+// An input that ends within a request cuts it short.
+fn cut(u: Unfilled) -> Stop {
+    match u {
+        Unfilled::Failed(e) => Stop::ReadFailed(e),
+        Unfilled::Empty | Unfilled::Cut => Stop::BadRequest,
+    }
+}
+
+// Before a request it is the end of the run.
+fn head_cut(u: Unfilled) -> Stop {
+    match u {
+        Unfilled::Empty => Stop::Ended,
+        within => cut(within),
+    }
+}
+
+// Reads the rest of a request and answers it.
 fn body(
-    rt: &(impl Input + Print + Eprint),
+    rt: &(impl Input + Print),
     h: Header,
     tree: &mut [u8],
     words: &mut [u64],
     history: &mut [i16],
     steps: &mut [u8],
-) -> bool {
-    let sent = h.sent;
-    let got = input::body(rt, sent, tree, words, history, steps);
-    match got {
-        Filled::Whole => answer(rt, h, tree, words, history, steps),
-        Filled::Failed => text::read_failed(rt),
-        Filled::Empty => text::bad_request(rt),
-        Filled::Cut => text::bad_request(rt),
-    }
+) -> Result<(), Stop> {
+    input::body(rt, h.sent, tree, words, history, steps).map_err(|u| cut(u))?;
+    answer(rt, h, tree, words, history, steps)
 }
 
 // The request of a header, over buffers that hold the longest.
 fn announced(
-    rt: &(impl Input + Print + Eprint),
+    rt: &(impl Input + Print),
     h: Header,
     tree: &mut [u8],
     words: &mut [u64],
     history: &mut [i16],
     steps: &mut [u8],
-) -> bool
+) -> Result<(), Stop>
     requires { Roomy tree.old words.old history.old steps.old }
 {
     if !header::right(h) {
-        return text::bad_request(rt);
+        return Err(Stop::BadRequest);
     }
     let t = h.tree;
     let w = h.words;
@@ -84,43 +91,35 @@ fn announced(
     )
 }
 
-// One request; false where the run ends.
+// One request.
 fn request(
-    rt: &(impl Input + Print + Eprint),
+    rt: &(impl Input + Print),
     tree: &mut [u8],
     words: &mut [u64],
     history: &mut [i16],
     steps: &mut [u8],
-) -> bool
+) -> Result<(), Stop>
     requires { Roomy tree.old words.old history.old steps.old }
 {
     let mut head = [0u8; 96];
-    let got = input::fill(rt, &mut head);
-    match got {
-        Filled::Whole => announced(rt, header::read(&head), tree, words, history, steps),
-        Filled::Empty => false,
-        Filled::Cut => text::bad_request(rt),
-        Filled::Failed => text::read_failed(rt),
-    }
+    input::fill(rt, &mut head).map_err(|u| head_cut(u))?;
+    announced(rt, header::read(&head), tree, words, history, steps)
 }
 
-// Nothing says that the input ends, so the requests are counted down from a number that no run uses up.
+// Nothing says that the input ends, so the requests are counted up to a number that no run reaches.
 fn requests(
-    rt: &(impl Input + Print + Eprint),
+    rt: &(impl Input + Print),
     tree: &mut [u8],
     words: &mut [u64],
     history: &mut [i16],
     steps: &mut [u8],
-)
+) -> Result<(), Stop>
     requires { Roomy tree.old words.old history.old steps.old }
 {
-    let mut left = u64::MAX;
-    while left > 0 {
-        if !request(rt, tree, words, history, steps) {
-            return;
-        }
-        left -= 1;
+    for _ in 0..u64::MAX {
+        request(rt, tree, words, history, steps)?;
     }
+    Ok(())
 }
 
 // The buffers. Each contract gives the length alone, which lending an array as a slice needs.
@@ -153,5 +152,7 @@ fn main(rt: HostRuntime) {
     let mut words = words_buffer();
     let mut history = history_buffer();
     let mut steps = steps_buffer();
-    requests(&rt, &mut tree, &mut words, &mut history, &mut steps);
+    if let Err(stop) = requests(&rt, &mut tree, &mut words, &mut history, &mut steps) {
+        let _ = stop.tell(&rt);
+    }
 }

@@ -3,12 +3,15 @@ use Rattle.std.specs.Prelude.{List, ℕ, zero, suc, ◌+◌, ◌*◌, ℤ, set}
 use Rattle.record.specs.Bytes.{le}
 use Rattle.probe_input.specs.Fields.{signed16_at}
 
--- the first words of the chunk, of 8 bytes each, put into words from `at` on
-unfoldable pub words_from : List ℕ → List ℕ → ℕ → ℕ → List ℕ
-words_from chunk words at zero = words
-words_from chunk words at (suc k) = set (words_from chunk words at k) (at + k) (le chunk (8 * k) 8)
+-- the first numbers of the chunk, of `width` bytes each, put into items from `at` on
+unfoldable pub items_from : {X : Type 0} → (List ℕ → ℕ → X) → ℕ → List ℕ → List X → ℕ → ℕ → List X
+items_from read width chunk items at zero = items
+items_from read width chunk items at (suc k) = set (items_from read width chunk items at k) (at + k) (read chunk (width * k))
 
--- its first entries, of 2 bytes each and signed, put into entries from `at` on
-unfoldable pub entries_from : List ℕ → List ℤ → ℕ → ℕ → List ℤ
-entries_from chunk entries at zero = entries
-entries_from chunk entries at (suc k) = set (entries_from chunk entries at k) (at + k) (signed16_at chunk (2 * k))
+-- words have 8 bytes each
+abbrev pub words_from : List ℕ → List ℕ → ℕ → ℕ → List ℕ
+words_from = items_from (λ s at. le s at 8) 8
+
+-- entries have 2 bytes each and are signed
+abbrev pub entries_from : List ℕ → List ℤ → ℕ → ℕ → List ℤ
+entries_from = items_from signed16_at 2

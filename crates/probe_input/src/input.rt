@@ -1,8 +1,12 @@
 // Reading whole parts of standard input.
-ghost use Rattle.std.specs.Prelude.{◌≡◌, ◌+◌, ◌≤◌, min, length};
-ghost use Rattle.probe_input.specs.Sent.{words_from, entries_from};
+ghost use Rattle.std.specs.Prelude.{◌≡◌, ℕ, ◌+◌, ◌*◌, ◌<◌, ◌≤◌, List, length};
+ghost use Rattle.std.proofs.Common.{rules};
+ghost use Rattle.record.specs.Bytes.{le};
+ghost use Rattle.probe_input.specs.Fields.{signed16_at};
+ghost use Rattle.probe_input.specs.Sent.{items_from};
 
 use record::bytes;
+use std::io;
 use std::io::{Input, Read};
 
 // Whether the table's words and the history's entries are sent; else they are all zero.
@@ -12,177 +16,119 @@ pub struct Sent {
     pub entries: bool,
 }
 
-// How a part was filled: wholly, not at all since the input had ended, cut short by its end, or a read failed.
-#[derive(Clone, Copy)]
-pub enum Filled {
-    Whole,
+// Why a part was not filled: the input had ended, ended within it, or a read failed.
+#[derive(Debug, Drop)]
+pub enum Unfilled {
     Empty,
     Cut,
-    Failed,
+    Failed(io::Error),
 }
 
-// What an input is that ends after so many bytes of a part.
-fn ended(done: usize) -> Filled {
-    if done == 0 {
-        return Filled::Empty;
+// A number that a request holds as its little-endian bytes.
+pub trait Number: Copy {
+    const WIDTH: usize;
+
+    ghost WIDTH: { ℕ };
+
+    ghost read_at: { List ℕ → ℕ → Self };
+
+    fn read(chunk: &[u8; 4096], at: usize) -> Self
+        requires { at + WIDTH ≤ 4096 }
+        ensures { result ≡ read_at chunk.now at };
+
+    ghost fits: { (0 < WIDTH) × (WIDTH ≤ 8) };
+}
+
+impl Number for u64 {
+    const WIDTH: usize = 8;
+
+    ghost WIDTH = { 8 };
+
+    ghost read_at = { λ s at. le s at 8 };
+
+    ghost fits = { Prim.search rules };
+
+    fn read(chunk: &[u8; 4096], at: usize) -> u64 {
+        bytes::le64(chunk, at)
     }
-    Filled::Cut
 }
 
-// Says on standard error why a read failed.
-fn failed(rt: &impl Eprint, e: std::io::Error) -> Filled {
-    let _ = eprintln!(rt; "standard input: {e}");
-    Filled::Failed
+impl Number for i16 {
+    const WIDTH: usize = 2;
+
+    ghost WIDTH = { 2 };
+
+    ghost read_at = { signed16_at };
+
+    ghost fits = { Prim.search rules };
+
+    fn read(chunk: &[u8; 4096], at: usize) -> i16 {
+        bytes::le16(chunk, at).cast_signed()
+    }
 }
 
 // Reads until buf is full. A read that fails is not taken for the end of the input.
-pub fn fill(rt: &(impl Input + Eprint), buf: &mut [u8]) -> Filled {
+pub fn fill(rt: &impl Input, buf: &mut [u8]) -> Result<(), Unfilled> {
     let mut input = rt.reader();
     let mut done = 0;
     while done < buf.len() {
         match input.read(&mut buf[done..]) {
-            Ok(0) => return ended(done),
+            Ok(0) if done == 0 => return Err(Unfilled::Empty),
+            Ok(0) => return Err(Unfilled::Cut),
             Ok(more) => done += more,
-            Err(e) => return failed(rt, e),
+            Err(e) => return Err(Unfilled::Failed(e)),
         }
     }
-    Filled::Whole
+    Ok(())
 }
 
-// Reads the first n bytes of buf.
-fn fill_start(rt: &(impl Input + Eprint), buf: &mut [u8], n: usize) -> Filled
-    requires { n ≤ length buf.old }
+// The numbers that a chunk of bytes holds.
+#[tactic(auto, unfolding(crate::specs::Sent::items_from))]
+fn decode<T: Number>(chunk: &[u8; 4096], items: &mut [T])
+    requires { T.WIDTH * length items.old ≤ 4096 }
+    ensures { items.new ≡ items_from T.read_at T.WIDTH chunk.now items.old 0 (length items.old) }
 {
-    fill(rt, &mut buf[..n])
+    for (i, x) in items.iter_mut().enumerate() {
+        *x = T::read(chunk, T::WIDTH * i);
+    }
 }
 
-fn least(a: usize, b: usize) -> usize
-    ensures { result ≡ min a b }
+// The next numbers, no more than a chunk holds.
+fn next<T: Number>(rt: &impl Input, items: &mut [T]) -> Result<(), Unfilled>
+    requires { T.WIDTH * length items.old ≤ 4096 }
 {
-    if a < b { a } else { b }
+    let mut chunk = [0u8; 4096];
+    fill(rt, &mut chunk[..T::WIDTH * items.len()])?;
+    decode(&chunk, items);
+    Ok(())
 }
 
-// The n words that a chunk of bytes holds, put into words from `at` on.
-fn decode_words(chunk: &[u8; 4096], n: usize, words: &mut [u64], at: usize)
-    requires { (n ≤ 512) × (at + n ≤ length words.old) }
-    ensures { words.new ≡ words_from chunk.now words.old at n }
-{
-    let mut i = 0;
-    while i < n {
-        words[at + i] = bytes::le64(chunk, 8 * i);
-        i += 1;
+fn fill_numbers<T: Number>(rt: &impl Input, items: &mut [T]) -> Result<(), Unfilled> {
+    for part in items.chunks_mut(4096 / T::WIDTH) {
+        next(rt, part)?;
     }
+    Ok(())
 }
 
-// The next n words, from `at` on.
-fn next_words(rt: &(impl Input + Eprint), words: &mut [u64], at: usize, n: usize) -> Filled
-    requires { (n ≤ 512) × (at + n ≤ length words.old) }
-{
-    let mut chunk = io::buffer();
-    let got = fill_start(rt, &mut chunk, 8 * n);
-    if whole(got) {
-        decode_words(&chunk, n, words, at);
-    }
-    got
-}
-
-fn fill_words(rt: &(impl Input + Eprint), words: &mut [u64]) -> Filled {
-    let mut at = 0;
-    while at < words.len() {
-        let n = least(words.len() - at, 512);
-        let got = next_words(rt, words, at, n);
-        if !whole(got) {
-            return got;
-        }
-        at += n;
-    }
-    Filled::Whole
-}
-
-// The same of entries.
-fn decode_entries(chunk: &[u8; 4096], n: usize, entries: &mut [i16], at: usize)
-    requires { (n ≤ 2048) × (at + n ≤ length entries.old) }
-    ensures { entries.new ≡ entries_from chunk.now entries.old at n }
-{
-    let mut i = 0;
-    while i < n {
-        entries[at + i] = score::of_bits16(bytes::le16(chunk, 2 * i));
-        i += 1;
-    }
-}
-
-// The next n entries, from `at` on.
-fn next_entries(rt: &(impl Input + Eprint), entries: &mut [i16], at: usize, n: usize) -> Filled
-    requires { (n ≤ 2048) × (at + n ≤ length entries.old) }
-{
-    let mut chunk = io::buffer();
-    let got = fill_start(rt, &mut chunk, 2 * n);
-    if whole(got) {
-        decode_entries(&chunk, n, entries, at);
-    }
-    got
-}
-
-fn fill_entries(rt: &(impl Input + Eprint), entries: &mut [i16]) -> Filled {
-    let mut at = 0;
-    while at < entries.len() {
-        let n = least(entries.len() - at, 2048);
-        let got = next_entries(rt, entries, at, n);
-        if !whole(got) {
-            return got;
-        }
-        at += n;
-    }
-    Filled::Whole
-}
-
-fn whole(got: Filled) -> bool {
-    match got {
-        Filled::Whole => true,
-        Filled::Empty => false,
-        Filled::Cut => false,
-        Filled::Failed => false,
-    }
-}
-
-// The table's words, sent or all zero.
-fn words_of(rt: &(impl Input + Eprint), sent: bool, words: &mut [u64]) -> Filled {
-    if sent {
-        return fill_words(rt, words);
-    }
-    table::clear(words);
-    Filled::Whole
-}
-
-// The history's entries, sent or all zero.
-fn entries_of(rt: &(impl Input + Eprint), sent: bool, entries: &mut [i16]) -> Filled {
-    if sent {
-        return fill_entries(rt, entries);
-    }
-    history::clear(entries);
-    Filled::Whole
-}
-
-// A request's body: tree, table, history, steps.
+// A request's body: tree, table, history, steps. Words and entries that are not sent are zero.
 pub fn body(
-    rt: &(impl Input + Eprint),
+    rt: &impl Input,
     sent: Sent,
     tree: &mut [u8],
     words: &mut [u64],
     entries: &mut [i16],
     steps: &mut [u8],
-) -> Filled {
-    let t = fill(rt, tree);
-    if !whole(t) {
-        return t;
+) -> Result<(), Unfilled> {
+    fill(rt, tree)?;
+    if sent.words {
+        fill_numbers(rt, words)?;
+    } else {
+        words.fill(0);
     }
-    let w = words_of(rt, sent.words, words);
-    if !whole(w) {
-        return w;
-    }
-    let e = entries_of(rt, sent.entries, entries);
-    if !whole(e) {
-        return e;
+    if sent.entries {
+        fill_numbers(rt, entries)?;
+    } else {
+        entries.fill(0);
     }
     fill(rt, steps)
 }

@@ -16,6 +16,7 @@ pub struct Step {
 }
 
 // The i-th step of a script.
+#[tactic(auto, unfolding(crate::specs::Step::step_at))]
 pub fn at(steps: &[u8], i: usize) -> Step
     requires { 24 * i + 24 ≤ length steps.now }
     ensures { result ≡ step_at steps.now i }
@@ -23,9 +24,9 @@ pub fn at(steps: &[u8], i: usize) -> Step
     let k = 24 * i;
     Step {
         operation: steps[k],
-        d: score::of_bits8(steps[k + 1]),
+        d: steps[k + 1].cast_signed(),
         h: bytes::le16(steps, k + 2),
-        s: score::of_bits16(bytes::le16(steps, k + 4)),
+        s: bytes::le16(steps, k + 4).cast_signed(),
         m: bytes::le16(steps, k + 6),
         a: bytes::le64(steps, k + 8),
         b: bytes::le64(steps, k + 16),

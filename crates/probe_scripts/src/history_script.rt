@@ -1,49 +1,77 @@
 // Kind 7: a history script.
-use histories::EntryResult;
 use probe_input::step;
 use probe_input::step::Step;
-use probe_text::{fnv, text};
+use probe_text::fnv;
+use probe_text::stop::Stop;
+use probe_text::text::Line;
+use refusal::Refusal;
 
-fn delta(rt: &impl Print, hh_max: i16, depth: i8) -> bool {
-    let r = histories::delta(hh_max, depth);
-    let mut line = [0u8; 512];
-    let mut n = text::field(&mut line, 0, b"delta ", r.refusal as u64);
-    n = text::signed_field(&mut line, n, b" ", r.delta);
-    text::write(rt, &mut line, n)
+#[derive(Clone, Copy)]
+enum Operation {
+    Delta,
+    Bonus,
+    Malus,
 }
 
-fn entry_line(rt: &impl Print, word: &[u8], history: &[i16], r: EntryResult) -> bool {
-    let mut line = [0u8; 512];
-    let mut n = text::field(&mut line, 0, word, r.refusal as u64);
-    n = text::signed_field(&mut line, n, b" entry ", r.entry);
-    n = text::hex_field(&mut line, n, b" history ", fnv::of_entries(history));
-    text::write(rt, &mut line, n)
-}
+impl TryFrom<u8> for Operation {
+    type Error = Stop;
 
-fn one(rt: &impl Print, history: &mut [i16], hh_max: i16, t: Step) -> bool {
-    let operation = t.operation;
-    match operation {
-        1 => delta(rt, hh_max, t.d),
-        2 => {
-            let r = histories::bonus(history, hh_max, t.h, t.m, t.d);
-            entry_line(rt, b"bonus ", history, r)
+    fn try_from(byte: u8) -> Result<Operation, Stop> {
+        match byte {
+            1 => Ok(Operation::Delta),
+            2 => Ok(Operation::Bonus),
+            3 => Ok(Operation::Malus),
+            _ => Err(Stop::BadStep),
         }
-        3 => {
-            let r = histories::malus(history, hh_max, t.h, t.m, t.d);
-            entry_line(rt, b"malus ", history, r)
-        }
-        _ => text::bad_step(rt),
     }
 }
 
-pub fn run(rt: &impl Print, hh_max: i16, history: &mut [i16], steps: &[u8]) -> bool {
-    let count = steps.len() / 24;
-    let mut i = 0;
-    while i < count {
-        if !one(rt, history, hh_max, step::at(steps, i)) {
-            return false;
+// The start of an answer's line: the refusal's number, and the number that was told, which is 0 where it was refused.
+fn answer(name: &[u8], word: &[u8], told: Result<i16, Refusal>) -> Line {
+    let (refusal, x) = match told {
+        Ok(x) => (0, x),
+        Err(r) => (r.number(), 0),
+    };
+    let mut line = Line::new();
+    line.field(name, refusal);
+    line.field(word, x);
+    line
+}
+
+// The answer of a bonus or a malus, with the history's sum.
+fn change(
+    rt: &impl Print,
+    name: &[u8],
+    history: &[i16],
+    told: Result<i16, Refusal>,
+) -> Result<(), Stop> {
+    let mut line = answer(name, b" entry ", told);
+    line.hex_field(b" history ", fnv::sum(history));
+    line.write(rt)?;
+    Ok(())
+}
+
+fn one(rt: &impl Print, history: &mut [i16], hh_max: i16, t: Step) -> Result<(), Stop> {
+    match Operation::try_from(t.operation)? {
+        Operation::Delta => {
+            let told = histories::delta(hh_max, t.d);
+            answer(b"delta ", b" ", told).write(rt)?;
+            Ok(())
         }
-        i += 1;
+        Operation::Bonus => {
+            let told = histories::bonus(history, hh_max, t.h, t.m, t.d);
+            change(rt, b"bonus ", history, told)
+        }
+        Operation::Malus => {
+            let told = histories::malus(history, hh_max, t.h, t.m, t.d);
+            change(rt, b"malus ", history, told)
+        }
     }
-    true
+}
+
+pub fn run(rt: &impl Print, hh_max: i16, history: &mut [i16], steps: &[u8]) -> Result<(), Stop> {
+    for i in 0..steps.len() / 24 {
+        one(rt, history, hh_max, step::at(steps, i))?;
+    }
+    Ok(())
 }

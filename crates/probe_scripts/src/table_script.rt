@@ -3,146 +3,163 @@ use percentages::rates;
 use percentages::rates::Rate;
 use probe_input::step;
 use probe_input::step::Step;
-use probe_text::{float, fnv, text};
+use probe_text::stop::Stop;
+use probe_text::text::Line;
+use probe_text::{float, fnv};
+use refusal::Refusal;
 use table::{Found, Stats};
-use tables::{LookupResult, StatsResult};
-use transposition::Entry;
+use transposition::{Bound, Entry};
 
-// What a step leaves: the age and counters, and whether the script goes on.
 #[derive(Clone, Copy)]
-struct Stepped {
-    goes_on: bool,
-    stats: Stats,
+enum Operation {
+    Lookup,
+    Store,
+    Reset,
+    Clear,
+    Occupancy,
+    HitRate,
+    MissRate,
+    CollisionRate,
 }
 
-fn leaves(goes_on: bool, stats: Stats) -> Stepped {
-    Stepped {
-        goes_on: goes_on,
-        stats: stats,
+impl TryFrom<u8> for Operation {
+    type Error = Stop;
+
+    fn try_from(byte: u8) -> Result<Operation, Stop> {
+        match byte {
+            1 => Ok(Operation::Lookup),
+            2 => Ok(Operation::Store),
+            3 => Ok(Operation::Reset),
+            4 => Ok(Operation::Clear),
+            5 => Ok(Operation::Occupancy),
+            6 => Ok(Operation::HitRate),
+            7 => Ok(Operation::MissRate),
+            8 => Ok(Operation::CollisionRate),
+            _ => Err(Stop::BadStep),
+        }
     }
 }
 
 // The end of a line: age, counters and the table's sum.
-fn finish(rt: &impl Print, line: &mut [u8; 512], at: usize, words: &[u64], s: Stats) -> Stepped {
-    let mut n = text::stats(line, at, s);
-    n = text::hex_field(line, n, b" table ", fnv::of_words(words));
-    leaves(text::write(rt, line, n), s)
+fn finish(rt: &impl Print, mut line: Line, words: &[u64], stats: Stats) -> Result<(), Stop> {
+    line.stats(stats);
+    line.hex_field(b" table ", fnv::sum(words));
+    line.write(rt)?;
+    Ok(())
 }
 
-fn entry_fields(line: &mut [u8; 512], at: usize, e: Entry) -> usize {
-    let bound = e.bound;
-    let mut n = text::signed_field(line, at, b" depth ", e.depth as i16);
-    n = text::signed_field(line, n, b" score ", e.score);
-    n = text::field(line, n, b" move ", e.mv as u64);
-    n = text::field(line, n, b" bound ", transposition::bound_byte(bound) as u64);
-    text::field(line, n, b" entry-age ", e.age as u64)
+fn entry_fields(line: &mut Line, e: Entry) {
+    line.field(b" depth ", e.depth);
+    line.field(b" score ", e.score);
+    line.field(b" move ", e.mv);
+    line.field(b" bound ", e.bound as u8);
+    line.field(b" entry-age ", e.age);
 }
 
-fn no_entry(line: &mut [u8; 512], at: usize, found: &[u8]) -> usize {
-    let n = text::bytes(line, at, found);
-    text::bytes(line, n, b" depth 0 score 0 move 0 bound 0 entry-age 0")
+fn no_entry(line: &mut Line, found: &[u8]) {
+    line.bytes(found);
+    line.bytes(b" depth 0 score 0 move 0 bound 0 entry-age 0");
 }
 
-fn found_fields(line: &mut [u8; 512], at: usize, r: LookupResult) -> usize {
-    if r.refusal != 0 {
-        return no_entry(line, at, b"none");
-    }
-    let found = r.found;
-    match found {
-        Found::Miss => no_entry(line, at, b"miss"),
-        Found::Collision => no_entry(line, at, b"collision"),
-        Found::Hit(e) => {
-            let n = text::bytes(line, at, b"hit");
-            entry_fields(line, n, e)
+fn found_fields(line: &mut Line, told: Result<Found, Refusal>) {
+    match told {
+        Err(_) => no_entry(line, b"none"),
+        Ok(Found::Miss) => no_entry(line, b"miss"),
+        Ok(Found::Collision) => no_entry(line, b"collision"),
+        Ok(Found::Hit(e)) => {
+            line.bytes(b"hit");
+            entry_fields(line, e);
         }
     }
 }
 
-fn lookup(rt: &impl Print, words: &[u64], s: Stats, t: Step) -> Stepped {
-    let r = tables::lookup(words, s, t.a);
-    let after = r.stats;
-    let mut line = [0u8; 512];
-    let mut n = text::field(&mut line, 0, b"lookup ", r.refusal as u64);
-    n = text::bytes(&mut line, n, b" found ");
-    n = found_fields(&mut line, n, r);
-    finish(rt, &mut line, n, words, after)
+fn lookup(rt: &impl Print, words: &[u64], stats: &mut Stats, t: Step) -> Result<(), Stop> {
+    let told = tables::lookup(words, stats, t.a);
+    let mut line = Line::new();
+    line.field(b"lookup ", refusal::number_told(told.map(|_| ())));
+    line.bytes(b" found ");
+    found_fields(&mut line, told);
+    finish(rt, line, words, *stats)
 }
 
 // The answer of a store, a reset or a clear.
-fn stats_line(rt: &impl Print, word: &[u8], words: &[u64], r: StatsResult) -> Stepped {
-    let after = r.stats;
-    let mut line = [0u8; 512];
-    let n = text::field(&mut line, 0, word, r.refusal as u64);
-    finish(rt, &mut line, n, words, after)
+fn stats_line(
+    rt: &impl Print,
+    name: &[u8],
+    words: &[u64],
+    stats: Stats,
+    told: Result<(), Refusal>,
+) -> Result<(), Stop> {
+    let mut line = Line::new();
+    line.field(name, refusal::number_told(told));
+    finish(rt, line, words, stats)
 }
 
-// A store; a bound that is none of the three is a bad step.
-fn store(rt: &impl Print, words: &mut [u64], s: Stats, t: Step) -> Stepped {
-    if t.h > 2 {
-        return leaves(text::bad_step(rt), s);
+// A bound that is none of the three is a bad step.
+fn bound_of(number: u16) -> Result<Bound, Stop> {
+    match number {
+        0 => Ok(Bound::Exact),
+        1 => Ok(Bound::Lower),
+        2 => Ok(Bound::Upper),
+        _ => Err(Stop::BadStep),
     }
-    let bound = transposition::bound_of(t.h as u8);
-    let r = tables::store(words, s, t.a, t.d, t.s, t.m, bound);
-    stats_line(rt, b"store ", words, r)
 }
 
-fn occupancy(rt: &impl Print, words: &[u64], s: Stats) -> Stepped {
-    let r = tables::occupancy(words);
-    let o = r.occupancy;
-    let mut line = [0u8; 512];
-    let mut n = text::field(&mut line, 0, b"occupancy ", r.refusal as u64);
-    n = float::field(&mut line, n, b" exact ", o.exact);
-    n = float::field(&mut line, n, b" lower ", o.lower);
-    n = float::field(&mut line, n, b" upper ", o.upper);
-    leaves(text::write(rt, &mut line, n), s)
+fn store(rt: &impl Print, words: &mut [u64], stats: &mut Stats, t: Step) -> Result<(), Stop> {
+    let bound = bound_of(t.h)?;
+    let told = tables::store(words, stats, t.a, t.d, t.s, t.m, bound);
+    stats_line(rt, b"store ", words, *stats, told)
 }
 
-fn rate_fields(line: &mut [u8; 512], r: Rate) -> usize {
+// Nothing where it was refused: shares of 0.
+fn occupancy(rt: &impl Print, words: &[u64]) -> Result<(), Stop> {
+    let told = tables::occupancy(words);
+    let (refusal, exact, lower, upper) = match told {
+        Ok(o) => (0, o.exact, o.lower, o.upper),
+        Err(r) => (r.number(), 0.0, 0.0, 0.0),
+    };
+    let mut line = Line::new();
+    line.field(b"occupancy ", refusal);
+    float::field(&mut line, b" exact ", exact);
+    float::field(&mut line, b" lower ", lower);
+    float::field(&mut line, b" upper ", upper);
+    line.write(rt)?;
+    Ok(())
+}
+
+fn rate(rt: &impl Print, r: Rate) -> Result<(), Stop> {
+    let mut line = Line::new();
     match r {
-        Rate::Share(x) => float::field(line, 0, b"rate 0 ", x),
-        Rate::NoLookups => text::bytes(line, 0, b"rate 0 none"),
-        Rate::Refused => text::bytes(line, 0, b"rate 11 0 e 0"),
+        Rate::Share(x) => float::field(&mut line, b"rate 0 ", x),
+        Rate::NoLookups => line.bytes(b"rate 0 none"),
+        Rate::Refused => line.bytes(b"rate 11 0 e 0"),
+    }
+    line.write(rt)?;
+    Ok(())
+}
+
+fn one(rt: &impl Print, words: &mut [u64], stats: &mut Stats, t: Step) -> Result<(), Stop> {
+    match Operation::try_from(t.operation)? {
+        Operation::Lookup => lookup(rt, words, stats, t),
+        Operation::Store => store(rt, words, stats, t),
+        Operation::Reset => {
+            let told = tables::reset(words, stats);
+            stats_line(rt, b"reset ", words, *stats, told)
+        }
+        Operation::Clear => {
+            let told = tables::clear(words, stats);
+            stats_line(rt, b"clear ", words, *stats, told)
+        }
+        Operation::Occupancy => occupancy(rt, words),
+        Operation::HitRate => rate(rt, rates::hit_rate(*stats)),
+        Operation::MissRate => rate(rt, rates::miss_rate(*stats)),
+        Operation::CollisionRate => rate(rt, rates::collision_rate(*stats)),
     }
 }
 
-fn rate(rt: &impl Print, r: Rate, s: Stats) -> Stepped {
-    let mut line = [0u8; 512];
-    let n = rate_fields(&mut line, r);
-    leaves(text::write(rt, &mut line, n), s)
-}
-
-fn one(rt: &impl Print, words: &mut [u64], s: Stats, t: Step) -> Stepped {
-    let operation = t.operation;
-    match operation {
-        1 => lookup(rt, words, s, t),
-        2 => store(rt, words, s, t),
-        3 => {
-            let r = tables::reset(words, s);
-            stats_line(rt, b"reset ", words, r)
-        }
-        4 => {
-            let r = tables::clear(words, s);
-            stats_line(rt, b"clear ", words, r)
-        }
-        5 => occupancy(rt, words, s),
-        6 => rate(rt, rates::hit_rate(s), s),
-        7 => rate(rt, rates::miss_rate(s), s),
-        8 => rate(rt, rates::collision_rate(s), s),
-        _ => leaves(text::bad_step(rt), s),
+pub fn run(rt: &impl Print, mut stats: Stats, words: &mut [u64], steps: &[u8]) -> Result<(), Stop> {
+    for i in 0..steps.len() / 24 {
+        one(rt, words, &mut stats, step::at(steps, i))?;
     }
-}
-
-pub fn run(rt: &impl Print, stats: Stats, words: &mut [u64], steps: &[u8]) -> bool {
-    let count = steps.len() / 24;
-    let mut s = stats;
-    let mut i = 0;
-    while i < count {
-        let r = one(rt, words, s, step::at(steps, i));
-        if !r.goes_on {
-            return false;
-        }
-        s = r.stats;
-        i += 1;
-    }
-    true
+    Ok(())
 }

@@ -1,40 +1,43 @@
--- A number halved while it is even, turn by turn. Assumes nothing.
-use Rattle.std.proofs.Common.{◌≡◌, ℕ, ◌+◌, ◌-◌, ◌*◌, ◌/◌, ◌%◌, ◌^◌, ◌<◌, ◌≤◌, ◌⊎◌, sym, ap, ◌∙◌, subst, inl, inr, mul_assoc, add-one, arith}
-use native.Mathlib.Nat.{pow-succ'}
+-- A number without its low zeros. Assumes nothing.
+use Rattle.std.proofs.Common.{◌≡◌, ℕ, zero, suc, ◌+◌, ◌*◌, ◌/◌, ◌%◌, ◌^◌, ◌<◌, ◌≤◌, min, ltb, Bool, true, false, refl, subst, sym, ap, ◌∙◌, mul_assoc, arith, w64, ltb-true, ltb-false}
+use native.Mathlib.Nat.{pow-suc, pow-succ', pow-le-pow_right, div-div-eq-div-mul, div-eq_of_lt}
+use Rattle.std.specs.Int.{bit_at, trailing_zeros}
+use Rattle.std.proofs.lemmas.Nat.Bits.{bit_at-trailing_zeros}
 use Rattle.probe_text.specs.Float.{Halves}
 
--- with so many turns to go: what is left is odd, or each turn so far has halved it
-pub record Halving (x left times turns : ℕ) : Type 0 where
-  pub room : times + turns ≤ 53
-  pub whole : left * 2 ^ times ≡ x
-  pub state : (left % 2 ≡ 1) ⊎ (times + turns ≡ 53)
-
 -- a half, times one power more
-twice : (left times : ℕ) → left % 2 ≡ 0 → left / 2 * 2 ^ (times + 1) ≡ left * 2 ^ times
+twice : (left times : ℕ) → left % 2 ≡ 0 → left / 2 * 2 ^ suc times ≡ left * 2 ^ times
 twice left times h =
     let e : left / 2 * 2 ≡ left = omega arith in
-    let p : left / 2 * 2 ^ (times + 1) ≡ left / 2 * (2 * 2 ^ times) = ap (λ (y : ℕ). left / 2 * y) (ap (λ (k : ℕ). 2 ^ k) (add-one times) ∙ pow-succ' 2 times) in
-    p ∙ sym (mul_assoc (left / 2) 2 (2 ^ times)) ∙ ap (λ (y : ℕ). y * 2 ^ times) e
+    ap (λ (y : ℕ). left / 2 * y) (pow-succ' 2 times) ∙ sym (mul_assoc (left / 2) 2 (2 ^ times)) ∙ ap (λ (y : ℕ). y * 2 ^ times) e
 
-module _ {x left times turns : ℕ} (i : Halving x left times turns) (t : 0 < turns) where
-  every : (left % 2 ≡ 1) ⊎ (times + turns ≡ 53) → left % 2 ≡ 0 → times + 1 + (turns - 1) ≡ 53
-  every (inl o) h = omega arith
-  every (inr e) h = omega arith
+-- with k low zeros, a number is a multiple of 2 to the k
+multiple : (k x : ℕ) → ((i : ℕ) → i < k → bit_at x i ≡ 0) → x / 2 ^ k * 2 ^ k ≡ x
+multiple zero x h = omega arith
+multiple (suc k) x h =
+    let half : x / 2 ^ suc k ≡ x / 2 ^ k / 2 = ap (λ (y : ℕ). x / y) (pow-suc 2 k) ∙ sym (div-div-eq-div-mul x (2 ^ k) 2) in
+    ap (λ (y : ℕ). y * 2 ^ suc k) half ∙ twice (x / 2 ^ k) k (h k (omega arith)) ∙ multiple k x (λ i l. h i (omega arith))
 
-  pub even : left % 2 ≡ 0 → Halving x (left / 2) (times + 1) (turns - 1)
-  even h = record { room = omega (arith, i.room); whole = twice left times h ∙ i.whole; state = inr (every i.state h) }
+-- the place of a 1 in a number of 53 bits
+place : (x t : ℕ) → x < 2 ^ 53 → bit_at x t ≡ 1 → t < 53
+place x t h b = by-test (ltb t 53) refl
+  where
+    by-test : (c : Bool) → ltb t 53 ≡ c → t < 53
+    by-test true e = ltb-true t 53 e
+    by-test false e =
+        let more : 2 ^ 53 ≤ 2 ^ t = pow-le-pow_right {n = 2} (omega arith) {i = 53} {j = t} (ltb-false t 53 e) in
+        let none : x / 2 ^ t ≡ 0 = div-eq_of_lt (omega arith) in
+        let one : 0 % 2 ≡ 1 = subst (λ (y : ℕ). y % 2 ≡ 1) none b in
+        absurd (omega arith)
 
-  pub uneven : (left % 2 ≡ 0 → ⊥) → Halving x left times (turns - 1)
-  uneven h = record { room = omega (arith, i.room); whole = i.whole; state = inl (omega arith) }
-
--- a number of 53 bits that is halved 53 times is 0
-all_halved : (x left times : ℕ) → x < 2 ^ 53 → times ≡ 53 → left * 2 ^ times ≡ x → 0 < x → ⊥
-all_halved x left times b e w p = let z : left * 2 ^ 53 ≡ x = subst (λ (k : ℕ). left * 2 ^ k ≡ x) e w in omega arith
-
-module _ {x left times : ℕ} (b : x < 2 ^ 53) (i : Halving x left times 0) where
-  left-odd : (left % 2 ≡ 1) ⊎ (times + 0 ≡ 53) → 0 < x → left % 2 ≡ 1
-  left-odd (inl o) p = o
-  left-odd (inr e) p = absurd (all_halved x left times b (omega arith) i.whole p)
-
-  pub done : Halves x left times
-  done = record { few = omega (arith, i.room); whole = i.whole; odd = left-odd i.state }
+pub halves : (x t : ℕ) → x < 2 ^ 53 → t ≡ min (trailing_zeros w64 x) 53 → Halves x (x / 2 ^ t) t
+halves zero t h e = record { few = omega arith; whole = omega arith; odd = λ p. absurd (omega arith) }
+halves (suc n) t h e =
+    let b = bit_at-trailing_zeros w64 (suc n) (omega arith) (omega arith) in
+    let l = place (suc n) (trailing_zeros w64 (suc n)) h b.1 in
+    let s : t ≡ trailing_zeros w64 (suc n) = omega (arith, l, e) in
+    record {
+      few = omega arith;
+      whole = rw s (multiple (trailing_zeros w64 (suc n)) (suc n) b.2);
+      odd = λ _. rw s b.1;
+    }

@@ -1,4 +1,3 @@
 pub mod Floats
 pub mod Halving
 pub mod Lines
-pub mod Sums

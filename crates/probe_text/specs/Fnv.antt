@@ -1,5 +1,5 @@
 -- FNV-1a, 64 bits, over little-endian bytes. Assumes nothing.
-use Rattle.std.specs.Prelude.{ℕ, zero, suc, ◌*◌, ◌/◌, ◌%◌, ◌^◌, List, length, ℤ, pos, bit_xor, slice_index, slice_index_or}
+use Rattle.std.specs.Prelude.{ℕ, zero, suc, ◌*◌, ◌/◌, ◌%◌, ◌^◌, List, ℤ, bit_xor, fold}
 use Rattle.std.specs.Int.{w16}
 use Rattle.score.specs.Bits.{bits_of}
 
@@ -19,13 +19,12 @@ unfoldable pub bytes_into : ℕ → ℕ → ℕ → ℕ
 bytes_into sum x zero = sum
 bytes_into sum x (suc n) = bytes_into (byte_into sum (x % 256)) (x / 256) n
 
--- over the first k numbers, of n bytes each
-unfoldable pub sum_to : (ℕ → ℕ) → ℕ → ℕ → ℕ
-sum_to number n zero = basis
-sum_to number n (suc k) = bytes_into (sum_to number n k) (number k) n
+-- over numbers of n bytes each, from their bits
+unfoldable pub sum_of : {X : Type 0} → (X → ℕ) → ℕ → List X → ℕ
+sum_of bits n items = fold (λ sum x. bytes_into sum (bits x) n) basis items
 
 abbrev pub of_words : List ℕ → ℕ
-of_words words = sum_to (λ k. slice_index words k) 8 (length words)
+of_words words = sum_of (λ x. x) 8 words
 
 abbrev pub of_entries : List ℤ → ℕ
-of_entries entries = sum_to (λ k. bits_of w16 (slice_index_or entries k (pos 0))) 2 (length entries)
+of_entries entries = sum_of (λ x. bits_of w16 x) 2 entries

@@ -2,69 +2,53 @@
 ghost use Rattle.std.specs.Prelude.{◌^◌, ◌<◌};
 ghost use Rattle.probe_text.specs.Float.{Halves};
 
-use crate::text;
+use crate::text::Line;
 
 // What is left of a number that was halved so many times.
 #[derive(Clone, Copy)]
 struct Halved {
     left: u64,
-    times: usize,
+    times: u32,
 }
 
-// A number of at most 53 bits, halved while it is even.
+// A number of at most 53 bits, halved while it is even; 0 is halved 53 times.
 fn halve(x: u64) -> Halved
     requires { x < 2 ^ 53 }
     ensures { Halves x result.left result.times }
 {
-    let mut left = x;
-    let mut times = 0;
-    let mut turns: usize = 53;
-    while turns > 0 {
-        if left % 2 == 0 {
-            left = left / 2;
-            times += 1;
-        }
-        turns -= 1;
-    }
+    let times = x.trailing_zeros().min(53);
     Halved {
-        left: left,
-        times: times,
+        left: x >> times,
+        times,
     }
-}
-
-// The power that a float's exponent stands for: what it has more or less than 1,075.
-fn power(line: &mut [u8; 512], at: usize, exponent: usize) -> usize {
-    if exponent < 1075 {
-        return text::field(line, at, b"-", (1075 - exponent) as u64);
-    }
-    text::number(line, at, (exponent - 1075) as u64)
 }
 
 // m times 2^(exponent - 1075), with m made odd.
-fn odd(line: &mut [u8; 512], at: usize, m: u64, exponent: usize) -> usize
+fn odd(line: &mut Line, m: u64, exponent: u32)
     requires { (m < 2 ^ 53) × (exponent < 2048) }
 {
     let h = halve(m);
-    let mut n = text::number(line, at, h.left);
-    n = text::bytes(line, n, b" e ");
-    power(line, n, exponent + h.times)
+    line.number(h.left);
+    line.field(b" e ", (exponent + h.times).cast_signed() - 1075);
 }
 
 // The 52 low bits are the fraction, the 11 above them the exponent, which is 0 where the fraction has no leading 1.
-pub fn exact(line: &mut [u8; 512], at: usize, x: f64) -> usize {
+pub fn exact(line: &mut Line, x: f64) {
     if x > 0.0 {
         let bits = f64::to_bits(x);
-        let exponent = (bits / 4503599627370496 % 2048) as usize;
+        let exponent = (bits / 4503599627370496 % 2048) as u32;
         let fraction = bits % 4503599627370496;
         if exponent == 0 {
-            return odd(line, at, fraction, 1);
+            odd(line, fraction, 1);
+        } else {
+            odd(line, fraction + 4503599627370496, exponent);
         }
-        return odd(line, at, fraction + 4503599627370496, exponent);
+    } else {
+        line.bytes(b"0 e 0");
     }
-    text::bytes(line, at, b"0 e 0")
 }
 
-pub fn field(line: &mut [u8; 512], at: usize, word: &[u8], x: f64) -> usize {
-    let n = text::bytes(line, at, word);
-    exact(line, n, x)
+pub fn field(line: &mut Line, word: &[u8], x: f64) {
+    line.bytes(word);
+    exact(line, x);
 }

@@ -1,15 +1,17 @@
 // The line that the program answers a tree with: 01's settings, the search with them, and the printing.
 #![tactic(auto)]
 
-ghost use Rattle.std.specs.Prelude.{◌≡◌, take};
-ghost use Rattle.std.specs.Bool.{OnTrue};
+ghost use Rattle.std.specs.Prelude.{◌≡◌, take, OnOk};
 ghost use Rattle.std.specs.Io.KnownBytes.{Appends};
 ghost use Rattle.io.specs.Counts.{IsPrefixLen};
+ghost use Rattle.desk.specs.RootEntry.{told_root};
 ghost use Rattle.program.specs.Program.{program_settings, fresh_stats, program_entry, program_line};
 
 use desk::root_search;
-use results::RootResult;
+use refusal::Refusal;
+use results::RootAnswer;
 use state::Settings;
+use std::io;
 use std::io::Write;
 use table::Stats;
 
@@ -44,13 +46,22 @@ pub fn fresh() -> Stats
     }
 }
 
-// Depths 1 to 30, over a table of 4,096 entries and a history of its own.
-pub fn search(tree: &[u8]) -> RootResult
-    ensures { result ≡ (program_entry tree.now).it }
+// Depths 1 to 30, over a table of 4,096 entries and a history of its own. The age and counters after it are the definition's.
+pub fn search(tree: &[u8]) -> Result<RootAnswer, Refusal>
+    ensures { let whole = (program_entry tree.now).it in told_root result whole.stats ≡ whole }
 {
     let mut words = [0u64; 8192];
     let mut history = [0i16; 8192];
-    root_search::search_root(tree, &mut words, &mut history, settings(), fresh(), 1, 31)
+    let mut stats = fresh();
+    root_search::search_root(
+        tree,
+        &mut words,
+        &mut history,
+        settings(),
+        &mut stats,
+        1,
+        31,
+    )
 }
 
 // The line that answers a tree, at the start of out; how many bytes it has.
@@ -58,15 +69,17 @@ pub fn answer(tree: &[u8], out: &mut [u8; 160]) -> usize
     ensures prefix_len { IsPrefixLen result out.new }
     ensures out_after { take result out.new ≡ program_line tree.now }
 {
-    text::line(search(tree), out)
+    let line = text::line(search(tree));
+    let bytes = line.as_str().as_bytes();
+    out[..bytes.len()].copy_from_slice(bytes);
+    bytes.len()
 }
 
-// Writes the answer to a writer, as standard output; false where it can't be written. Of a writer whose bytes are known, true
-// says that it has the line behind what it had.
-pub fn print<W: Write>(to: &mut W, tree: &[u8]) -> bool
-    ensures { OnTrue result (Appends (W.contents to.old) (W.contents to.new) (program_line tree.now)) }
+// Writes the answer to a writer, as standard output. Of a writer whose bytes are known, Ok says that it has the line behind
+// what it had.
+pub fn print<W: Write>(to: &mut W, tree: &[u8]) -> io::Result<()>
+    ensures { OnOk result (Appends (W.contents to.old) (W.contents to.new) (program_line tree.now)) }
 {
-    let mut out = [0u8; 160];
-    let n = answer(tree, &mut out);
-    to.write_all(&out[..n]).is_ok()
+    let line = text::line(search(tree));
+    to.write_all(line.as_str().as_bytes())
 }

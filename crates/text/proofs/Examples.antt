@@ -3,7 +3,7 @@ use mathlib.Core.Path.{◌≡◌, refl}
 use mathlib.Core.Bool.{Bool, false, true}
 use Prim.Native.Nat.{ℕ}
 use lib.IntN.{ℤ, pos, negsuc}
-use Rattle.results.specs.declared.RootResult.{RootResult}
+use Rattle.desk.specs.RootEntry.{RootResult}
 use Rattle.table.specs.Stats.{zeroed}
 use Rattle.text.specs.Text.{ascii, decimal_to, signed, found_text, spent_text, answer_line, refused_line, line_by, line_of}
 

@@ -1,3 +1,3 @@
 pub mod Digits
 pub mod Examples
-pub mod Putting
+pub mod Lines

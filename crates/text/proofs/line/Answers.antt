@@ -1,10 +1,15 @@
 -- `text::line` meets its contract: a refusal has its own line. Assumes nothing.
-use mathlib.Core.Path.{sym, ◌∙◌}
-use Rattle.text.proofs.Putting.{line_refused, line_answered}
+use Rattle.std.proofs.Common.{sym, ap, ◌∙◌}
+use Rattle.desk.specs.RootEntry.{told_root}
+use Rattle.text.specs.Text.{refused_line, line_by, line_of}
+use Rattle.text.proofs.Lines.{line_refused}
 use Rattle.text.proofs.line.Goals as goal
 
-pub returns-then-r-ne0-clause-out_after : goal.returns-then-r-ne0-clause-out_after
-returns-then-r-ne0-clause-out_after c = c.put_refused.ensures.put.bytes ∙ sym (line_refused c.args.r c.if-r-ne0.true)
+pub returns-in-Err : goal.returns-in-Err
+returns-in-Err c stats =
+    c.refused_line.ensures ∙ ap refused_line c.number.ensures ∙ line_refused c.in-Err.r stats
+    ∙ ap (λ told. line_of (told_root told stats)) (sym c.in-Err.is)
 
-pub returns-clause-out_after : goal.returns-clause-out_after
-returns-clause-out_after c = c.put_answer.ensures.put.bytes ∙ sym (line_answered c.args.r c.if-r-ne0.false)
+pub returns-in-Ok : goal.returns-in-Ok
+unfolding line_by
+returns-in-Ok c stats = c.answer_line.ensures stats ∙ ap (λ told. line_of (told_root told stats)) (sym c.in-Ok.is)
