@@ -3,7 +3,8 @@ use Rattle.std.specs.Prelude.{Bool, List, ℕ, ◌/◌, ◌%◌, eqb, ℤ, pos}
 use Rattle.table.specs.Stats.{zeroed}
 use Rattle.state.specs.declared.Settings.{Settings}
 use Rattle.carry.specs.Carry.{With}
-use Rattle.desk.specs.RootEntry.{RootResult, root_entry}
+use Rattle.desk.specs.RootEntry.{root_entry}
+use Rattle.results.specs.Told.{RootResult}
 
 unfoldable pub bit_of : ℕ → ℕ → Bool
 bit_of bits unit = eqb (bits / unit % 2) 1

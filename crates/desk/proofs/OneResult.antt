@@ -7,8 +7,9 @@ use Rattle.table.specs.declared.Stats.{Stats}
 use Rattle.state.specs.declared.Settings.{Settings}
 use Rattle.carry.specs.Carry.{With, with}
 use Rattle.desk.specs.declared.node_search.Start.{Start}
-use Rattle.desk.specs.NodeEntry.{told_node, node_entry}
-use Rattle.desk.specs.RootEntry.{told_root, root_entry}
+use Rattle.desk.specs.NodeEntry.{node_entry}
+use Rattle.desk.specs.RootEntry.{root_entry}
+use Rattle.results.specs.Told.{told_node, told_root}
 
 -- two results of a search, with the age and counters, the words and the entries after each, that are told as the entry gives are one
 abbrev pub OneSearch : {A B : Type 0} → (Result A Refusal → Stats → B) → With B → Type 0

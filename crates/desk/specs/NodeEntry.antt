@@ -1,8 +1,5 @@
 -- The node search's entry: which refusal it gets, and what it answers and leaves. Assumes nothing.
-use Rattle.std.specs.Prelude.{Bool, false, ◌&&◌, List, ℕ, zero, suc, ◌-◌, ◌%◌, eqb, ℤ, pos, nat_abs, Ok, Err}
-use Rattle.std.specs.declared.result.Result.{Result}
-use Rattle.refusal.specs.declared.Refusal.{Refusal}
-use Rattle.refusal.specs.Number.{number_of}
+use Rattle.std.specs.Prelude.{Bool, false, ◌&&◌, List, ℕ, zero, suc, ◌-◌, ◌%◌, eqb, ℤ, pos, nat_abs}
 use Rattle.table.specs.declared.Stats.{Stats}
 use Rattle.tree.specs.Level.{level_of}
 use Rattle.tree.specs.Pick.{pick}
@@ -15,7 +12,7 @@ use Rattle.visits.specs.Search.{node_search}
 use Rattle.refusals.specs.Rows.{history_right, node_right, window_right, depth_right, ply_right}
 use Rattle.refusals.specs.First.{first, unless, search_rows}
 use Rattle.desk.specs.declared.node_search.Start.{Start}
-use Rattle.results.specs.declared.NodeAnswer.{NodeAnswer}
+use Rattle.results.specs.Told.{NodeResult, node_refused}
 
 -- row 7, of all that a node search takes
 unfoldable pub start_right : List ℕ → Settings → Start → Bool
@@ -39,22 +36,9 @@ abbrev pub args_of : List ℕ → Settings → Start → Args
 args_of t set at =
     record { node = at.node; side = side_at t set at.node; alpha = at.alpha; beta = at.beta; depth = nat_abs at.depth; ply = at.ply }
 
--- what is told of a node search: the refusal's number, 0 for none; what it answers; the age and counters after it
-pub record NodeResult : Type 0 where
-  pub refusal : ℕ
-  pub score : ℤ
-  pub nodes : ℕ
-  pub stopped : Bool
-  pub stats : Stats
-
 -- 01, Visits: "The node search gives score, node count and stop mark"
 abbrev pub node_result : Out → NodeResult
 node_result o = record { refusal = 0; score = o.score; nodes = o.state.nodes; stopped = o.state.stop; stats = o.state.stats }
-
--- 01, Refusal numbers: "A refusal returns its number with every result number 0, and lent memory is unchanged; clock, age and counters come back
--- from a refused call as they went in."
-abbrev pub node_refused : ℕ → Stats → NodeResult
-node_refused r c = record { refusal = r; score = pos 0; nodes = 0; stopped = false; stats = c }
 
 abbrev pub node_given : With Out → With NodeResult
 node_given r = with (node_result r.it) r.words r.history
@@ -65,9 +49,3 @@ node_answer (suc r) t set c at words history = with (node_refused (suc r) c) wor
 
 abbrev pub node_entry : List ℕ → Settings → Stats → Start → List ℕ → List ℤ → With NodeResult
 node_entry t set c at words history = node_answer (node_refusal t words history set at) t set c at words history
-
--- 01, Some places and their forms: "When an answer is an enum, a definition specifies this paper's number and values for each of its cases." The
--- age and counters are those that the search leaves.
-abbrev pub told_node : Result NodeAnswer Refusal → Stats → NodeResult
-told_node (Ok a) c = record { refusal = 0; score = a.score; nodes = a.nodes; stopped = a.stopped; stats = c }
-told_node (Err r) c = node_refused (number_of r) c

@@ -5,8 +5,9 @@ ghost use Rattle.refusal.specs.Number.{number_told};
 ghost use Rattle.tree.specs.Blocks.{Blocked};
 ghost use Rattle.tree.specs.Layout.{Laid};
 ghost use Rattle.carry.specs.Carry.{with};
-ghost use Rattle.desk.specs.NodeEntry.{start_right, node_refusal, side_at, args_of, told_node, node_entry};
+ghost use Rattle.desk.specs.NodeEntry.{start_right, node_refusal, side_at, args_of, node_entry};
 ghost use Rattle.desk.specs.Told.{NodeTold};
+ghost use Rattle.results.specs.Told.{told_node};
 
 use carry::Args;
 use refusal::Refusal;

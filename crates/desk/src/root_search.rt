@@ -2,7 +2,8 @@
 ghost use Rattle.std.specs.Prelude.{◌≡◌};
 ghost use Rattle.refusal.specs.Number.{number_told};
 ghost use Rattle.carry.specs.Carry.{with};
-ghost use Rattle.desk.specs.RootEntry.{root_refusal, told_root, root_entry};
+ghost use Rattle.desk.specs.RootEntry.{root_refusal, root_entry};
+ghost use Rattle.results.specs.Told.{told_root};
 
 use refusal::Refusal;
 use results::RootAnswer;

@@ -3,8 +3,9 @@ use Rattle.std.specs.Prelude.{true, List, ℕ, ℤ, pos, replicate}
 use Rattle.table.specs.declared.Stats.{Stats}
 use Rattle.state.specs.declared.Settings.{Settings}
 use Rattle.carry.specs.Carry.{With}
-use Rattle.desk.specs.RootEntry.{RootResult, root_entry}
+use Rattle.desk.specs.RootEntry.{root_entry}
 use Rattle.text.specs.Text.{line_of}
+use Rattle.results.specs.Told.{RootResult}
 
 -- 01, Entries on both sides: "INF 30,000, MAX_PLY 128, HH_MAX 16,384, side 0, limit 1,000,000, all switches on"
 abbrev pub program_settings : Settings

@@ -4,8 +4,8 @@
 ghost use Rattle.std.specs.Prelude.{◌≡◌, take, OnOk};
 ghost use Rattle.std.specs.Io.KnownBytes.{Appends};
 ghost use Rattle.io.specs.Counts.{IsPrefixLen};
-ghost use Rattle.desk.specs.RootEntry.{told_root};
 ghost use Rattle.program.specs.Program.{program_settings, fresh_stats, program_entry, program_line};
+ghost use Rattle.results.specs.Told.{told_root};
 
 use desk::root_search;
 use refusal::Refusal;

@@ -10,10 +10,11 @@ use Rattle.carry.specs.Carry.{With}
 use Rattle.root.specs.Root.{root_search}
 use Rattle.refusals.specs.Rows.{inf_right, max_ply_right, hh_max_right, side_right, limit_right, tree_settings_right, history_settings_right, settings_right, table_right, history_sized, range_right}
 use Rattle.refusals.specs.First.{search_rows}
-use Rattle.desk.specs.RootEntry.{RootResult, root_result, root_refusal}
+use Rattle.desk.specs.RootEntry.{root_result, root_refusal}
 use Rattle.desk.proofs.Searching.{root_given_lem}
 use Rattle.starred.specs.Searched.{Switches, settings, empty, zeros, Answer, answer_of, searched, gives}
 use Rattle.starred.proofs.Switching.{everywhere, everywhere_means, is_given, is_given_lem}
+use Rattle.results.specs.Told.{RootResult}
 
 -- the root search below the entry
 abbrev pub ran : List ℕ → Switches → ℕ → ℕ → Answer

@@ -4,7 +4,8 @@ use Rattle.std.specs.Prelude.{Bool, true, false, List, ℕ, ◌*◌, ℤ, pos, r
 use Rattle.table.specs.Stats.{zeroed}
 use Rattle.record.specs.Node.{count_of, eval_of, move_of, hash_of, in_check, is_quiet}
 use Rattle.state.specs.declared.Settings.{Settings}
-use Rattle.desk.specs.RootEntry.{RootResult, root_entry}
+use Rattle.desk.specs.RootEntry.{root_entry}
+use Rattle.results.specs.Told.{RootResult}
 
 pub record Node : Type 0 where
   pub children : ℕ

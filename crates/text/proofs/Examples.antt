@@ -3,9 +3,9 @@ use mathlib.Core.Path.{◌≡◌, refl}
 use mathlib.Core.Bool.{Bool, false, true}
 use Prim.Native.Nat.{ℕ}
 use lib.IntN.{ℤ, pos, negsuc}
-use Rattle.desk.specs.RootEntry.{RootResult}
 use Rattle.table.specs.Stats.{zeroed}
 use Rattle.text.specs.Text.{ascii, decimal_to, signed, found_text, spent_text, answer_line, refused_line, line_by, line_of}
+use Rattle.results.specs.Told.{RootResult}
 
 abbrev result : ℕ → ℤ → ℕ → ℕ → ℕ → Bool → RootResult
 result refusal score mv depth nodes stopped = record { refusal = refusal; score = score; mv = mv; depth = depth; nodes = nodes; stopped = stopped; stats = zeroed 0 }

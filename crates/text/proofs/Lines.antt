@@ -7,9 +7,9 @@ use Rattle.refusal.specs.declared.Refusal.{Refusal}
 use Rattle.refusal.specs.declared.Refusal.TheVariants.{Length, Blocks, Layout, Fields, Levels, Settings, Start, Sizes, Entries, Clock, Rate}
 use Rattle.refusal.specs.Number.{number_of}
 use Rattle.table.specs.declared.Stats.{Stats}
-use Rattle.desk.specs.RootEntry.{RootResult, root_refused}
 use Rattle.text.specs.Text.{ascii, decimal, signed, mark_of, found_text, spent_text, answer_line, refused_line, line_of, line_by}
 use Rattle.text.proofs.Digits.{same_decimal, same_signed}
+use Rattle.results.specs.Told.{RootResult, root_refused}
 
 pub refused : {a b : List ℕ} (n : ℕ) → n < 2 ^ 64 → a ≡ [] ++ (ascii "refused " ++ printed n) → b ≡ a ++ ascii "\n" → b ≡ refused_line n
 unfolding refused_line

@@ -1,8 +1,8 @@
 -- The bytes of the line that a root search's result is printed as. Assumes nothing.
 use Rattle.std.specs.Prelude.{Bool, true, false, cond, List, [], ◌∷◌, ◌++◌, ℕ, zero, suc, ◌+◌, ◌/◌, ◌%◌, ltb, ℤ, pos, negsuc}
+use Rattle.results.specs.Told.{RootResult}
 use Prim.Native.Char.{code}
 use Prim.Native.String.{String, [] as none, ◌∷◌ as ◌then◌}
-use Rattle.desk.specs.RootEntry.{RootResult}
 
 -- the bytes of a text in ASCII
 unfoldable pub ascii : String → List ℕ

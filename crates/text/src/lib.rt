@@ -4,8 +4,8 @@
 ghost use Rattle.std.specs.Prelude.{Ok, ◌≡◌, ◌++◌, ◌+◌, ◌≤◌, length};
 ghost use Rattle.arrayvec.specs.ArrayString.{array_string_len};
 ghost use Rattle.table.specs.declared.Stats.{Stats};
-ghost use Rattle.desk.specs.RootEntry.{told_root};
 ghost use Rattle.text.specs.Text.{ascii, answer_line, refused_line, line_of};
+ghost use Rattle.results.specs.Told.{told_root};
 
 use arrayvec::ArrayString;
 use itoa::{Buffer, Integer};

@@ -5,9 +5,10 @@ use Rattle.state.specs.declared.Settings.{Settings}
 use Rattle.carry.specs.Carry.{With}
 use Rattle.refusal.specs.declared.Refusal.{Refusal}
 use Rattle.results.specs.declared.RootAnswer.{RootAnswer}
-use Rattle.desk.specs.RootEntry.{RootResult, root_entry, told_root}
+use Rattle.desk.specs.RootEntry.{root_entry}
 use Rattle.program.specs.Program.{fresh_table, fresh_history, program_entry}
 use Rattle.program.proofs.search.Goals as goal
+use Rattle.results.specs.Told.{RootResult, told_root}
 
 stats_told : (told : Result RootAnswer Refusal) (c : Stats) → (told_root told c).stats ≡ c
 stats_told (Ok a) c = refl

@@ -1,10 +1,10 @@
 -- `text::answer_line` meets its contract: what was found, how, the end of the line. Assumes nothing.
 use Rattle.std.proofs.Common.{Ok, ◌++◌, ap, ◌∙◌, rules, SFits, w16, to_z-of_z}
 use Rattle.std.specs.Fmt.{signed_decimal}
-use Rattle.desk.specs.RootEntry.{told_root}
 use Rattle.text.specs.Text.{ascii}
 use Rattle.text.proofs.Lines.{Fit, answered}
 use Rattle.text.proofs.answer_line.Goals as goal
+use Rattle.results.specs.Told.{told_root}
 
 pub returns : goal.returns
 unfolding ascii

@@ -1,9 +1,9 @@
 -- `text::line` meets its contract: a refusal has its own line. Assumes nothing.
 use Rattle.std.proofs.Common.{sym, ap, ◌∙◌}
-use Rattle.desk.specs.RootEntry.{told_root}
 use Rattle.text.specs.Text.{refused_line, line_by, line_of}
 use Rattle.text.proofs.Lines.{line_refused}
 use Rattle.text.proofs.line.Goals as goal
+use Rattle.results.specs.Told.{told_root}
 
 pub returns-in-Err : goal.returns-in-Err
 returns-in-Err c stats =

@@ -13,11 +13,12 @@ use Rattle.visits.proofs.Asked.{enough}
 use Rattle.truth.specs.Demand3.{Told}
 use Rattle.truth.proofs.Told.{told}
 use Rattle.refusals.proofs.Meaning.{search_accepted, set_side_most}
-use Rattle.desk.specs.NodeEntry.{fresh, told_node}
+use Rattle.desk.specs.NodeEntry.{fresh}
 use Rattle.desk.proofs.Searching.{ready}
 use Rattle.desk.proofs.Starting.{node_given_lem}
 use Rattle.desk.proofs.Unrefused.{node_rows_hold, settings_hold, depth_zero, start_reach, in_range, windowed}
 use Rattle.desk.proofs.node_search.search_node.Goals as goal
+use Rattle.results.specs.Told.{told_node}
 
 pub args_of-a-requires-clause-laid : goal.args_of-a-requires-clause-laid
 args_of-a-requires-clause-laid c = laid c.args.set _ (search_accepted _ _ _ _ (node_rows_hold _ _ _ _ _ (sym c.in_ok-node_refusal.ensures)))
