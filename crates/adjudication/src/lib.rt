@@ -3,7 +3,6 @@
 
 ghost use Rattle.std.specs.Prelude.{◌≡◌, ◌<◌};
 ghost use Rattle.tree.specs.Refusal.{tree_refusal};
-ghost use Rattle.table.specs.Stats.{zeroed};
 ghost use Rattle.adjudication.specs.Calls.{bit_of, settings_of, told, called};
 
 use desk::root_search;
@@ -46,19 +45,6 @@ fn settings(switches: u8, limit: u64) -> Settings
     }
 }
 
-fn fresh() -> Stats
-    ensures { result ≡ zeroed 0 }
-{
-    Stats {
-        lookups: 0,
-        inserts: 0,
-        hits: 0,
-        misses: 0,
-        collisions: 0,
-        age: 0,
-    }
-}
-
 // The root search of depths 1 to end - 1. The answer is the refusal; score, move and count of nodes go where the caller says.
 #[unsafe(no_mangle)]
 pub extern "C" fn desk_search_root(
@@ -75,7 +61,7 @@ pub extern "C" fn desk_search_root(
     ensures { told result score.new mv.new nodes.new words.new history.new ≡
         called tree.now switches limit end words.old history.old }
 {
-    let mut stats = fresh();
+    let mut stats = Stats::default();
     let told = root_search::search_root(
         tree,
         words,

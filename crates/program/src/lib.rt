@@ -36,14 +36,7 @@ pub fn settings() -> Settings
 pub fn fresh() -> Stats
     ensures { result ≡ fresh_stats }
 {
-    Stats {
-        age: 0,
-        lookups: 0,
-        inserts: 0,
-        hits: 0,
-        misses: 0,
-        collisions: 0,
-    }
+    Stats::default()
 }
 
 // Depths 1 to 30, over a table of 4,096 entries and a history of its own. The age and counters after it are the definition's.
