@@ -67,7 +67,7 @@ fn signed16(head: &[u8; 96], at: usize) -> i16
     requires { at + 2 ≤ 96 }
     ensures { result ≡ signed16_at head.now at }
 {
-    bytes::le16(head, at).cast_signed()
+    (bytes::le::<2>(head, at) as u16).cast_signed()
 }
 
 #[tactic(auto, unfolding(crate::specs::Header::settings_of))]
@@ -77,10 +77,10 @@ fn settings_of(head: &[u8; 96]) -> Settings
     let switches = head[1];
     Settings {
         inf: signed16(head, 2),
-        max_ply: bytes::le16(head, 4),
+        max_ply: bytes::le::<2>(head, 4) as u16,
         hh_max: signed16(head, 6),
         side: head[8],
-        limit: bytes::le64(head, 16),
+        limit: bytes::le::<8>(head, 16),
         table: bit(switches),
         delta: bit(switches / 2),
         reverse_futility: bit(switches / 4),
@@ -96,11 +96,11 @@ fn stats_of(head: &[u8; 96]) -> Stats
 {
     Stats {
         age: head[11],
-        lookups: bytes::le64(head, 40),
-        inserts: bytes::le64(head, 48),
-        hits: bytes::le64(head, 56),
-        misses: bytes::le64(head, 64),
-        collisions: bytes::le64(head, 72),
+        lookups: bytes::le::<8>(head, 40),
+        inserts: bytes::le::<8>(head, 48),
+        hits: bytes::le::<8>(head, 56),
+        misses: bytes::le::<8>(head, 64),
+        collisions: bytes::le::<8>(head, 72),
     }
 }
 
@@ -109,11 +109,11 @@ fn start_of(head: &[u8; 96]) -> Start
     ensures { result ≡ start_of head.now }
 {
     Start {
-        node: bytes::le64(head, 24),
+        node: bytes::le::<8>(head, 24),
         alpha: signed16(head, 12),
         beta: signed16(head, 14),
         depth: head[9].cast_signed(),
-        ply: bytes::le64(head, 32),
+        ply: bytes::le::<8>(head, 32),
     }
 }
 
@@ -138,10 +138,10 @@ pub fn read(head: &[u8; 96]) -> Header
         at: start_of(head),
         start: head[9].cast_signed(),
         end: head[10].cast_signed(),
-        tree: bytes::le32(head, 80) as usize,
-        words: bytes::le32(head, 84) as usize,
-        entries: bytes::le32(head, 88) as usize,
-        steps: bytes::le16(head, 94) as usize,
+        tree: bytes::le::<4>(head, 80) as usize,
+        words: bytes::le::<4>(head, 84) as usize,
+        entries: bytes::le::<4>(head, 88) as usize,
+        steps: bytes::le::<2>(head, 94) as usize,
         sent: sent_of(head),
     }
 }

@@ -49,7 +49,7 @@ impl Number for u64 {
     ghost fits = { Prim.search rules };
 
     fn read(chunk: &[u8; 4096], at: usize) -> u64 {
-        bytes::le64(chunk, at)
+        bytes::le::<8>(chunk, at)
     }
 }
 
@@ -63,7 +63,7 @@ impl Number for i16 {
     ghost fits = { Prim.search rules };
 
     fn read(chunk: &[u8; 4096], at: usize) -> i16 {
-        bytes::le16(chunk, at).cast_signed()
+        (bytes::le::<2>(chunk, at) as u16).cast_signed()
     }
 }
 

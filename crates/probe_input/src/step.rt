@@ -25,10 +25,10 @@ pub fn at(steps: &[u8], i: usize) -> Step
     Step {
         operation: steps[k],
         d: steps[k + 1].cast_signed(),
-        h: bytes::le16(steps, k + 2),
-        s: bytes::le16(steps, k + 4).cast_signed(),
-        m: bytes::le16(steps, k + 6),
-        a: bytes::le64(steps, k + 8),
-        b: bytes::le64(steps, k + 16),
+        h: bytes::le::<2>(steps, k + 2) as u16,
+        s: (bytes::le::<2>(steps, k + 4) as u16).cast_signed(),
+        m: bytes::le::<2>(steps, k + 6) as u16,
+        a: bytes::le::<8>(steps, k + 8),
+        b: bytes::le::<8>(steps, k + 16),
     }
 }
