@@ -11,5 +11,6 @@ pub fn le<const N: usize>(s: &[u8], at: usize) -> u64
 {
     let mut bytes = [0; 8];
     bytes[..N].copy_from_slice(&s[at..at + N]);
-    u64::from_le_bytes(bytes)
+    let number = u64::from_le_bytes(bytes);
+    number
 }
