@@ -15,8 +15,8 @@ use Rattle.state.specs.declared.State.{State}
 use Rattle.state.specs.declared.Out.{Out}
 use Rattle.state.specs.declared.Seen.{Seen}
 use Rattle.state.specs.declared.Consulted.{Consulted}
-use Rattle.moves.specs.declared.Place.{Place}
-use Rattle.moves.specs.declared.Place.TheVariants.{At, Nowhere}
+use Rattle.std.specs.declared.option.Option.{Option}
+use Rattle.std.specs.declared.option.Option.TheVariants.{Some, None}
 use Rattle.state.specs.State.{Over, over, answer_of, poll_of, seen_of, keep_of}
 use Rattle.moves.proofs.Ordered.{Among, among}
 use Rattle.capture_steps.specs.declared.Capture.{Capture}
@@ -63,18 +63,18 @@ module _ (set : Settings) (t words : List ℕ) (st s : State) (a : Capture) (es 
     enter_on e = sym (ap (λ (q : Bool). patted_if q p.alpha set t words s a) e) ∙ going
 
 -- a place whose child is quiet, and one whose child is noisy
-pub noisy_quiet : (t : List ℕ) (first p : ℕ) → is_quiet t (first + p) ≡ true → Nowhere ≡ noisy_at t first (At p)
+pub noisy_quiet : (t : List ℕ) (first p : ℕ) → is_quiet t (first + p) ≡ true → None ≡ noisy_at t first (Some p)
 unfolding noisy_at noisy_if
 noisy_quiet t first p e = rw e
 
-pub noisy_noisy : (t : List ℕ) (first p : ℕ) → is_quiet t (first + p) ≡ false → At p ≡ noisy_at t first (At p)
+pub noisy_noisy : (t : List ℕ) (first p : ℕ) → is_quiet t (first + p) ≡ false → Some p ≡ noisy_at t first (Some p)
 unfolding noisy_at noisy_if
 noisy_noisy t first p e = rw e
 
 -- a place among the children leads into the tree
-pub place_in : (n first count : ℕ) (p : Place) → Among count p → first + count ≤ n → PlaceIn n first p
-place_in n first count Nowhere a h = tt
-place_in n first count (At p) (among l) h = omega arith
+pub place_in : (n first count : ℕ) (p : Option ℕ) → Among count p → first + count ≤ n → PlaceIn n first p
+place_in n first count None a h = tt
+place_in n first count (Some p) (among l) h = omega arith
 
 -- a child's answer
 module _ (set : Settings) (t words : List ℕ) (h : Here) (l : Loc) (c : ℕ) (r : Out) (x : ℤ) (ex : x ≡ neg16 r.score) where

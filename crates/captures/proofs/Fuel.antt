@@ -8,7 +8,7 @@ use Rattle.tree.specs.Blocks.{nodes_of}
 use Rattle.record.specs.Node.{count_of, is_quiet}
 use Rattle.state.specs.declared.Settings.{Settings}
 use Rattle.state.specs.declared.State.{State}
-use Rattle.moves.specs.declared.Place.{Place}
+use Rattle.std.specs.declared.option.Option.{Option}
 use Rattle.state.specs.Accepted.{AcceptedBy}
 use Rattle.moves.specs.Kid.{Kid}
 use Rattle.moves.specs.Order.{child_of}
@@ -52,7 +52,7 @@ module _ (set : Settings) (t : List ℕ) (ok : AcceptedBy set t) where
     turn-same false l c words g = ap (judged set t h l c) (e (count_node l.state) words (down_of h l c) g.above g.in_tree)
 
     walk_same
-        : (p : Place) → h.node < nodes_of t → Among (count_of t h.node) p → (n i : ℕ) → i + n ≤ count_of t h.node → (l : Loc) (words : List ℕ)
+        : (p : Option ℕ) → h.node < nodes_of t → Among (count_of t h.node) p → (n i : ℕ) → i + n ≤ count_of t h.node → (l : Loc) (words : List ℕ)
         → walk_f v set t h p n i l words ≡ walk_f w set t h p n i l words
     unfolding walk_f
     walk_same p lt a zero i le l words = refl

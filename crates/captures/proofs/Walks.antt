@@ -12,8 +12,8 @@ use Rattle.state.specs.declared.Settings.{Settings}
 use Rattle.state.specs.declared.State.{State}
 use Rattle.state.specs.declared.Out.{Out}
 use Rattle.state.specs.declared.Consulted.{Consulted}
-use Rattle.moves.specs.declared.Place.{Place}
-use Rattle.moves.specs.declared.Place.TheVariants.{At, Nowhere}
+use Rattle.std.specs.declared.option.Option.{Option}
+use Rattle.std.specs.declared.option.Option.TheVariants.{Some, None}
 use Rattle.state.specs.Accepted.{AcceptedBy}
 use Rattle.moves.specs.Order.{child_of}
 use Rattle.state.specs.State.{Over, over, poll_of, seen_of, count_node}
@@ -41,7 +41,7 @@ module _ (v : Visit) (set : Settings) (t : List ℕ) (h : Here) (l : Loc) (c : �
   turn_noisy e r er = ap (judged set t h l c) er ∙ sym (ap (λ (q : Bool). turn_if q v set t h l c words) e)
 
 -- the rest of a walk: n children, the i-th is next
-module _ (v : Visit) (set : Settings) (t : List ℕ) (h : Here) (p : Place) (n i : ℕ) (l : Loc) (words : List ℕ) where
+module _ (v : Visit) (set : Settings) (t : List ℕ) (h : Here) (p : Option ℕ) (n i : ℕ) (l : Loc) (words : List ℕ) where
   step : (s : Over Turn) → i < n → s ≡ turn_f v set t h l (child_of t h.node p i) words
       → walk_f v set t h p (n - i) i l words ≡ next_f s (walk_f v set t h p (n - (i + 1)) (i + 1))
   unfolding walk_f
@@ -88,10 +88,10 @@ unfolding noisy_if
 among_if n p true lt = nowhere
 among_if n p false lt = among lt
 
-among_noisy : (t : List ℕ) (n first : ℕ) (p : Place) → Among n p → Among n (noisy_at t first p)
+among_noisy : (t : List ℕ) (n first : ℕ) (p : Option ℕ) → Among n p → Among n (noisy_at t first p)
 unfolding noisy_at
-among_noisy t n first Nowhere a = nowhere
-among_noisy t n first (At p) (among lt) = among_if n p (is_quiet t (first + p)) lt
+among_noisy t n first None a = nowhere
+among_noisy t n first (Some p) (among lt) = among_if n p (is_quiet t (first + p)) lt
 
 pub noisy_among : (t : List ℕ) (h : Here) (l : Loc) → Among (count_of t h.node) (noisy_place t h l)
 unfolding noisy_place
@@ -99,7 +99,7 @@ noisy_among t h l =
     among_noisy t (count_of t h.node) (first_of t h.node) _ (place_among t (first_of t h.node) (count_of t h.node) l.mv)
 
 -- the i-th child in the order of the walk
-pub kid_at : (set : Settings) (t : List ℕ) → AcceptedBy set t → (h : Here) (l : Loc) (p : Place) → p ≡ noisy_place t h l → h.node < nodes_of t
+pub kid_at : (set : Settings) (t : List ℕ) → AcceptedBy set t → (h : Here) (l : Loc) (p : Option ℕ) → p ≡ noisy_place t h l → h.node < nodes_of t
     → (i : ℕ) → i < count_of t h.node → Kid t h.node (child_of t h.node p i)
 kid_at set t ok h l p e r i lt = kid set t ok h.node i p r (subst (Among (count_of t h.node)) (sym e) (noisy_among t h l)) lt
 
