@@ -18,7 +18,8 @@ use Rattle.state.specs.Accepted.{AcceptedBy}
 use Rattle.moves.specs.Order.{child_of}
 use Rattle.state.specs.State.{Over, over, poll_of, seen_of, count_node}
 use Rattle.moves.specs.Kid.{Kid}
-use Rattle.moves.proofs.Kids.{kid}
+use Rattle.tree.proofs.Blocked.{record_in}
+use Rattle.moves.proofs.Kids.{kid, blocked, laid}
 use Rattle.moves.proofs.Ordered.{Among, among, nowhere, place_among}
 use Rattle.capture_steps.specs.declared.Capture.{Capture}
 use Rattle.capture_steps.specs.declared.Here.{Here}
@@ -145,3 +146,6 @@ walk_reach set t words s a h l e = reach_walk t a h (enter_stays set t words s a
 pub kid_reach : (t : List ℕ) (k c below ply : ℕ) → Kid t k c → Reach t k below ply → Reach t c (below + 1) (ply + 1)
 kid_reach t k c below ply g r =
     record { in_tree = g.in_tree; below_least = omega (arith, g.level, r.below_least); ply_least = omega (arith, g.level, r.ply_least) }
+
+-- a node's record lies in an accepted tree
+pub ruleset tree_rules = (blocked, laid, record_in)
