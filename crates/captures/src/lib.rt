@@ -54,7 +54,7 @@ fn walk(tree: &[u8], words: &mut [u64], set: Settings, here: Here, loc: Loc) -> 
 
 // One child: a quiet one is passed over.
 #[cycle(capture_visit)]
-#[tactic(auto, using(crate::proofs::Walks::tree_rules))]
+#[tactic(auto, using(crate::proofs::Walks::tree_rules), unfolding(crate::specs::Captures::turn_if))]
 fn turn(tree: &[u8], words: &mut [u64], set: Settings, here: Here, loc: Loc, c: usize) -> Turn
     requires accepted_by { AcceptedBy set tree.now }
     requires node_bound { here.node < nodes_of tree.now }

@@ -10,7 +10,7 @@ use Rattle.moves.proofs.Kids.{level_low}
 use Rattle.capture_steps.specs.Step.{Turn}
 use Rattle.captures.specs.Reach.{Reach}
 use Rattle.captures.specs.Captures.{turn_f, walk_f, captures_f}
-use Rattle.captures.proofs.Walks.{turn_quiet, turn_noisy, walk_next, walk_cut, walk_over, visit_answer, visit_moves}
+use Rattle.captures.proofs.Walks.{turn_noisy, walk_next, walk_cut, walk_over, visit_answer, visit_moves}
 use Rattle.captures.proofs.Walks.{Stays, enter_stays, walk_reach, kid_at, kid_reach}
 use Rattle.captures.proofs.+capture_visit.Goals as goal
 
@@ -50,11 +50,6 @@ captures-returns-in-Continue t c =
     λ k h. c.finish.ensures
     ∙ visit_moves k _ c.args.set c.args.tree.now c.args.st c.args.words.now c.args.a h _ c.enter.ensures _ _ c.in-Continue.is _
     (c.walk-w.ensures (k - 1) (omega (arith, h, stays.0)))
-
-pub turn-returns-then-is_quiet : goal.turn-returns-then-is_quiet
-turn-returns-then-is_quiet t c =
-    λ k h. turn_quiet (captures_f k c.args.set c.args.tree.now) c.args.set c.args.tree.now c.args.here c.args.loc c.args.c c.args.words.now
-    (sym c.is_quiet.ensures ∙ c.if-is_quiet.true)
 
 pub turn-down-requires-clause-below_bound : goal.turn-down-requires-clause-below_bound
 turn-down-requires-clause-below_bound t c =
