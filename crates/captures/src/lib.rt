@@ -8,11 +8,13 @@ ghost use Rattle.state.specs.Accepted.{AcceptedBy};
 ghost use Rattle.captures.specs.Captures.{captures_f, walk_all, turn_f};
 ghost use Rattle.captures.specs.Reach.{Reach};
 
-use capture_steps::{Capture, Entered, Here, Loc, Turn};
+use capture_steps::{Capture, Here, Loc, Turn};
 use record::node;
 use state::{Out, Settings, State};
+use std::ops::ControlFlow;
 
 #[cycle(capture_visit)]
+#[tactic(auto, using(crate::proofs::Walks::tree_rules))]
 pub fn captures(tree: &[u8], words: &mut [u64], set: Settings, st: State, a: Capture) -> Out
     requires accepted_by { AcceptedBy set tree.now }
     requires reach { Reach tree.now a.node a.below a.ply }
@@ -20,10 +22,9 @@ pub fn captures(tree: &[u8], words: &mut [u64], set: Settings, st: State, a: Cap
     ensures { (k : ℕ) → nodes_of tree.now - a.node < k →
         over result words.new ≡ captures_f k set tree.now st words.old a }
 {
-    let e = capture_steps::enter(tree, words, set, st, a);
-    match e {
-        Entered::Answer(o) => o,
-        Entered::Moves(here, loc) => {
+    match capture_steps::enter(tree, words, set, st, a) {
+        ControlFlow::Break(o) => o,
+        ControlFlow::Continue((here, loc)) => {
             let w = walk(tree, words, set, here, loc);
             capture_steps::finish(tree, words, set, here, w)
         }
@@ -32,6 +33,7 @@ pub fn captures(tree: &[u8], words: &mut [u64], set: Settings, st: State, a: Cap
 
 // The children in their order, until one cuts.
 #[cycle(capture_visit)]
+#[tactic(auto, using(crate::proofs::Walks::tree_rules))]
 fn walk(tree: &[u8], words: &mut [u64], set: Settings, here: Here, loc: Loc) -> Turn
     requires accepted_by { AcceptedBy set tree.now }
     requires reach { Reach tree.now here.node here.below here.ply }
@@ -43,22 +45,16 @@ fn walk(tree: &[u8], words: &mut [u64], set: Settings, here: Here, loc: Loc) -> 
     let n = node::child_count(tree, k);
     let place = capture_steps::noisy_place(tree, here, loc);
     let mut l = loc;
-    let mut i: usize = 0;
-    while i < n {
+    for i in 0..n {
         let c = moves::child(tree, k, place, i);
-        let t = turn(tree, words, set, here, l, c);
-        let done = t.done;
-        if done {
-            return t;
-        }
-        l = t.loc;
-        i += 1;
+        l = turn(tree, words, set, here, l, c)?;
     }
-    capture_steps::unfinished(l)
+    ControlFlow::Continue(l)
 }
 
 // One child: a quiet one is passed over.
 #[cycle(capture_visit)]
+#[tactic(auto, using(crate::proofs::Walks::tree_rules), unfolding(crate::specs::Captures::turn_if))]
 fn turn(tree: &[u8], words: &mut [u64], set: Settings, here: Here, loc: Loc, c: usize) -> Turn
     requires accepted_by { AcceptedBy set tree.now }
     requires node_bound { here.node < nodes_of tree.now }
@@ -69,7 +65,7 @@ fn turn(tree: &[u8], words: &mut [u64], set: Settings, here: Here, loc: Loc, c: 
         over result words.new ≡ turn_f (captures_f k set tree.now) set tree.now here loc c words.old }
 {
     if node::is_quiet(tree, c) {
-        return capture_steps::unfinished(loc);
+        return ControlFlow::Continue(loc);
     }
     let st = capture_steps::counted(loc);
     let r = captures(tree, words, set, st, capture_steps::down(here, loc, c));

@@ -2,6 +2,7 @@
 #![tactic(auto)]
 
 use state::{Out, State};
+use std::ops::ControlFlow;
 
 // The arguments of a visit.
 #[derive(Clone, Copy)]
@@ -36,16 +37,8 @@ pub struct Loc {
     pub mv: u16,
 }
 
-// What a turn of the walk leaves; `done` where it cut.
-#[derive(Clone, Copy)]
-pub struct Turn {
-    pub loc: Loc,
-    pub done: bool,
-}
+// What a turn of the walk leaves: a break where it cut.
+pub type Turn = ControlFlow<Loc, Loc>;
 
 // What the steps before the moves leave: an answer, or the moves to be made.
-#[derive(Clone, Copy)]
-pub enum Entered {
-    Answer(Out),
-    Moves(Here, Loc),
-}
+pub type Entered = ControlFlow<Out, (Here, Loc)>;

@@ -2,8 +2,9 @@
 use Rattle.std.specs.Prelude.{Bool, true, false, not, ◌&&◌, List, ℕ, ◌+◌, ◌-◌, ◌*◌, ltb, eqb, ℤ, pos}
 use Rattle.std.specs.Int.Signed.{le_z}
 use Rattle.score.specs.Wrap.{add16, sub16, eq_z}
+use Rattle.core.specs.declared.ops.ControlFlow.TheVariants.{Continue, Break}
 use Rattle.record.specs.Node.{first_of, count_of, eval_of, hash_of, in_check, is_draw, is_pawn_ending, is_improving}
-use Rattle.moves.specs.declared.Place.{Place}
+use Rattle.std.specs.declared.option.Option.{Option}
 use Rattle.moves.specs.Order.{place_of}
 use Rattle.state.specs.declared.Settings.{Settings}
 use Rattle.state.specs.declared.State.{State}
@@ -15,8 +16,7 @@ use Rattle.state.specs.Consult.{consult_of, hint_of}
 use Rattle.carry.specs.declared.Args.{Args}
 use Rattle.carry.specs.declared.Here.{Here}
 use Rattle.carry.specs.declared.Loc.{Loc}
-use Rattle.carry.specs.declared.Entered.{Entered}
-use Rattle.carry.specs.declared.Entered.TheVariants.{Answer, Moves}
+use Rattle.carry.specs.Carry.{Entered}
 
 abbrev pub with_depth : Args → ℕ → Args
 with_depth a d = record { node = a.node; side = a.side; alpha = a.alpha; beta = a.beta; depth = d; ply = a.ply }
@@ -64,12 +64,12 @@ abbrev pub loc_of : Args → Consulted → State → Loc
 loc_of a w s = record { alpha = w.alpha; best = a.alpha; mv = w.hint; state = s }
 
 unfoldable pub reverse_if : Bool → Here → Loc → Entered
-reverse_if true h l = Answer (answer_of h.eval l.state)
-reverse_if false h l = Moves h l
+reverse_if true h l = Break (answer_of h.eval l.state)
+reverse_if false h l = Continue (h , l)
 
-unfoldable pub cut_if : Bool → Settings → List ℕ → Args → Bool → Consulted → State → Entered
-cut_if true set t a full w s = Answer (answer_of w.score s)
-cut_if false set t a full w s = reverse_if (reverse_futile t set (here_of t a full w)) (here_of t a full w) (loc_of a w s)
+unfoldable pub cut_if : Option ℤ → Settings → List ℕ → Args → Bool → Consulted → State → Entered
+cut_if (Some x) set t a full w s = Break (answer_of x s)
+cut_if None set t a full w s = reverse_if (reverse_futile t set (here_of t a full w)) (here_of t a full w) (loc_of a w s)
 
 -- 01, Visits: "a table cutoff or a table bound on the window is taken only when alpha is beta - 1 and stored depth >= depth"
 abbrev pub consulted : Seen → Args → Bool → Consulted
@@ -83,7 +83,7 @@ probe_of set t words s a = judge_seen (seen_of set.table words s (hash_of t a.no
 
 -- 01, Visits: "draw: 0; table; reverse futility"
 unfoldable pub draw_if : Bool → Settings → List ℕ → List ℕ → State → Args → Entered
-draw_if true set t words s a = Answer (answer_of (pos 0) s)
+draw_if true set t words s a = Break (answer_of (pos 0) s)
 draw_if false set t words s a = probe_of set t words s a
 
 unfoldable pub enter_of : Settings → List ℕ → List ℕ → State → Args → Entered
@@ -104,5 +104,5 @@ unfoldable pub hinted_of : Settings → List ℕ → List ℕ → Here → Loc �
 hinted_of set t words h l r = hinted_by (seen_of set.table words r.state (hash_of t h.node)) l
 
 -- 01, Visits: "the table's move first if it is a child"
-unfoldable pub hint_place : List ℕ → Here → Loc → Place
+unfoldable pub hint_place : List ℕ → Here → Loc → Option ℕ
 hint_place t h l = place_of t (first_of t h.node) (count_of t h.node) l.mv

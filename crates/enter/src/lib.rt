@@ -7,10 +7,10 @@ ghost use Rattle.tree.specs.Layout.{Laid};
 ghost use Rattle.enter.specs.Enter.{extend_of, full_window, margin, reverse_futile, probe_of, enter_of, deepens_of, inner_of, hinted_of, hint_place};
 
 use carry::{Args, Entered, Here, Loc};
-use moves::Place;
 use record::node;
-use score::{add16, same16, sub16};
-use state::{Out, Settings, State};
+use score::{add16, sub16};
+use state::{Out, Seen, Settings, State};
+use std::ops::ControlFlow;
 
 // In check, depth + 1.
 pub fn extend(tree: &[u8], a: Args) -> Args
@@ -19,19 +19,20 @@ pub fn extend(tree: &[u8], a: Args) -> Args
     requires depth_bound { a.depth ≤ 30 }
     ensures { result ≡ extend_of tree.now a }
 {
-    let k = a.node;
-    let mut x = a;
-    if node::in_check(tree, k) {
-        x.depth = x.depth + 1;
+    if node::in_check(tree, a.node) {
+        return Args {
+            depth: a.depth + 1,
+            ..a
+        };
     }
-    x
+    a
 }
 
 // A full window is one whose alpha is not beta - 1.
 fn full_window(a: Args) -> bool
     ensures { result ≡ full_window a.alpha a.beta }
 {
-    !same16(a.alpha, sub16(a.beta, 1))
+    a.alpha != sub16(a.beta, 1)
 }
 
 // What the evaluation must reach: beta and 75 a depth, less 20 if improving.
@@ -55,23 +56,12 @@ fn reverse_futile(tree: &[u8], set: Settings, here: Here) -> bool
     requires node_bound { here.node < nodes_of tree.now }
     ensures { result ≡ reverse_futile tree.now set here }
 {
-    let k = here.node;
-    if !set.reverse_futility {
-        return false;
-    }
-    if here.full {
-        return false;
-    }
-    if here.depth >= 7 {
-        return false;
-    }
-    if node::in_check(tree, k) {
-        return false;
-    }
-    if node::is_pawn_ending(tree, k) {
-        return false;
-    }
-    reverse_margin(tree, here) <= here.eval
+    set.reverse_futility
+        && !here.full
+        && here.depth < 7
+        && !node::in_check(tree, here.node)
+        && !node::is_pawn_ending(tree, here.node)
+        && reverse_margin(tree, here) <= here.eval
 }
 
 // The table, then reverse futility.
@@ -82,35 +72,32 @@ fn probe(tree: &[u8], words: &[u64], set: Settings, st: State, a: Args) -> Enter
     requires in_bounds { 2 ≤ length words.now }
     ensures { result ≡ probe_of set tree.now words.now st a }
 {
-    let k = a.node;
     let full = full_window(a);
-    let seen = st.look(words, set.table, node::hash(tree, k));
-    let found = seen.found;
-    let s = seen.state;
+    let Seen { found, state } = st.look(words, set.table, node::hash(tree, a.node));
     let w = state::consult(found, !full, a.depth as i8, a.alpha, a.beta);
-    if w.cut {
-        return Entered::Answer(s.answer(w.score));
+    if let Some(score) = w.cut {
+        return ControlFlow::Break(state.answer(score));
     }
     let here = Here {
-        node: k,
+        node: a.node,
         side: a.side,
         old: a.alpha,
         beta: w.beta,
         depth: a.depth,
         ply: a.ply,
-        full: full,
-        eval: node::evaluation(tree, k),
+        full,
+        eval: node::evaluation(tree, a.node),
     };
     if reverse_futile(tree, set, here) {
-        return Entered::Answer(s.answer(here.eval));
+        return ControlFlow::Break(state.answer(here.eval));
     }
     let loc = Loc {
         alpha: w.alpha,
         best: a.alpha,
         mv: w.hint,
-        state: s,
+        state,
     };
-    Entered::Moves(here, loc)
+    ControlFlow::Continue((here, loc))
 }
 
 // Draw, table, reverse futility.
@@ -121,9 +108,8 @@ pub fn enter(tree: &[u8], words: &[u64], set: Settings, st: State, a: Args) -> E
     requires in_bounds { 2 ≤ length words.now }
     ensures { result ≡ enter_of set tree.now words.now st a }
 {
-    let k = a.node;
-    if node::is_draw(tree, k) {
-        return Entered::Answer(st.answer(0));
+    if node::is_draw(tree, a.node) {
+        return ControlFlow::Break(st.answer(0));
     }
     probe(tree, words, set, st, a)
 }
@@ -132,16 +118,7 @@ pub fn enter(tree: &[u8], words: &[u64], set: Settings, st: State, a: Args) -> E
 pub fn deepens(set: Settings, here: Here, loc: Loc) -> bool
     ensures { result ≡ deepens_of set here loc }
 {
-    if !set.inner_deepening {
-        return false;
-    }
-    if !here.full {
-        return false;
-    }
-    if loc.mv != 0 {
-        return false;
-    }
-    here.depth > 2
+    set.inner_deepening && here.full && loc.mv == 0 && here.depth > 2
 }
 
 // The same node and ply, depth - 2.
@@ -166,21 +143,16 @@ pub fn hinted(tree: &[u8], words: &[u64], set: Settings, here: Here, loc: Loc, r
     requires in_bounds { 2 ≤ length words.now }
     ensures { result ≡ hinted_of set tree.now words.now here loc r }
 {
-    let k = here.node;
-    let st = r.state;
-    let seen = st.look(words, set.table, node::hash(tree, k));
-    let found = seen.found;
-    let s = seen.state;
+    let Seen { found, state } = r.state.look(words, set.table, node::hash(tree, here.node));
     Loc {
-        alpha: loc.alpha,
-        best: loc.best,
         mv: state::hint_of(found),
-        state: s,
+        state,
+        ..loc
     }
 }
 
 // The hint's place, if it is a child.
-pub fn hint_place(tree: &[u8], here: Here, loc: Loc) -> Place
+pub fn hint_place(tree: &[u8], here: Here, loc: Loc) -> Option<usize>
     requires laid { Laid tree.now }
     requires node_bound { here.node < nodes_of tree.now }
     ensures { result ≡ hint_place tree.now here loc }

@@ -4,6 +4,7 @@ use Rattle.std.specs.Int.Signed.{lt_z}
 use Rattle.score.specs.Wrap.{neg16, add16}
 use Rattle.transposition.specs.declared.Bound.{Bound}
 use Rattle.transposition.specs.declared.Bound.TheVariants.{Exact, Upper}
+use Rattle.core.specs.declared.ops.ControlFlow.TheVariants.{Continue, Break}
 use Rattle.record.specs.Node.{count_of, hash_of, in_check}
 use Rattle.state.specs.declared.Settings.{Settings}
 use Rattle.state.specs.declared.State.{State}
@@ -11,8 +12,7 @@ use Rattle.state.specs.declared.Out.{Out}
 use Rattle.state.specs.State.{Over, over, answer_of, keep_of}
 use Rattle.carry.specs.declared.Here.{Here}
 use Rattle.carry.specs.declared.Loc.{Loc}
-use Rattle.carry.specs.declared.Turn.{Turn}
-use Rattle.carry.specs.Carry.{With, beside}
+use Rattle.carry.specs.Carry.{Turn, With, beside}
 
 -- 01, Visits: "No children: -INF + ply in check, else 0."
 unfoldable pub game_end : Bool → ℤ → ℕ → ℤ
@@ -41,9 +41,9 @@ end_if true t set h l words = over (answer_of (game_end (in_check t h.node) set.
 end_if false t set h l words = stored_of t set h l words
 
 -- a cutoff's score is the answer, and was stored
-unfoldable pub finish_if : Bool → List ℕ → Settings → Here → Loc → List ℕ → Over Out
-finish_if true t set h l words = over (answer_of l.best l.state) words
-finish_if false t set h l words = end_if (eqb (count_of t h.node) 0) t set h l words
+unfoldable pub finish_if : Turn → List ℕ → Settings → Here → List ℕ → Over Out
+finish_if (Break l) t set h words = over (answer_of l.best l.state) words
+finish_if (Continue l) t set h words = end_if (eqb (count_of t h.node) 0) t set h l words
 
 abbrev pub finish_of : List ℕ → Settings → Here → With Turn → With Out
-finish_of t set h w = beside (finish_if w.it.done t set h w.it.loc w.words) w.history
+finish_of t set h w = beside (finish_if w.it t set h w.words) w.history

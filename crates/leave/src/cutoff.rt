@@ -6,8 +6,7 @@ ghost use Rattle.moves.specs.Order.{child_of};
 ghost use Rattle.carry.specs.Carry.{with};
 ghost use Rattle.leave.specs.Cutoff.{malus_at, credit_of, cutoff_of};
 
-use carry::{Here, Loc, Turn};
-use moves::Place;
+use carry::{Here, Loc};
 use record::node;
 use state::Settings;
 use transposition::Bound;
@@ -27,17 +26,14 @@ fn malus_at(tree: &[u8], history: &mut [i16], hh: u16, here: Here, c: usize, i: 
     requires history_len { (length history.old ≡ 8192) × ((here.side ≤ 1) × ((here.depth ≤ 31) × (0 < hh))) }
     ensures { history.new ≡ malus_at tree.now hh here c i history.old }
 {
-    if i == 0 {
-        return;
-    }
-    if node::is_quiet(tree, c) {
+    if i > 0 && node::is_quiet(tree, c) {
         let mv = node::move_to(tree, c);
         history::malus(history, hh, here.side, mv, here.depth as i8);
     }
 }
 
 // Bonus, then the malus of each earlier move in order. The earlier moves are found again by walking the children.
-fn credit(tree: &[u8], history: &mut [i16], hh: u16, here: Here, place: Place, mv: u16, n: usize)
+fn credit(tree: &[u8], history: &mut [i16], hh: u16, here: Here, place: Option<usize>, mv: u16, n: usize)
     requires blocked { Blocked tree.now }
     requires node_bound { here.node < nodes_of tree.now }
     requires by_index { (j : ℕ) → j < n → child_of tree.now here.node place j < nodes_of tree.now }
@@ -45,12 +41,9 @@ fn credit(tree: &[u8], history: &mut [i16], hh: u16, here: Here, place: Place, m
     ensures { history.new ≡ credit_of tree.now hh here place mv n history.old }
 {
     history::bonus(history, hh, here.side, mv, here.depth as i8);
-    let k = here.node;
-    let mut i: usize = 0;
-    while i < n {
-        let c = moves::child(tree, k, place, i);
+    for i in 0..n {
+        let c = moves::child(tree, here.node, place, i);
         malus_at(tree, history, hh, here, c, i);
-        i += 1;
     }
 }
 
@@ -61,11 +54,11 @@ pub fn cutoff(
     history: &mut [i16],
     set: Settings,
     here: Here,
-    place: Place,
+    place: Option<usize>,
     loc: Loc,
     c: usize,
     i: usize,
-) -> Turn
+) -> Loc
     requires blocked { Blocked tree.now }
     requires node_bound { here.node < nodes_of tree.now }
     requires c_bound { c < nodes_of tree.now }
@@ -73,27 +66,14 @@ pub fn cutoff(
     requires in_bounds { (2 ≤ length words.old) × ((length history.old ≡ 8192) × ((here.side ≤ 1) × ((here.depth ≤ 31) × (lt_z (pos 0) set.hh_max ≡ true)))) }
     ensures { with result words.new history.new ≡ cutoff_of tree.now set here place c i loc words.old history.old }
 {
-    let s = loc.state;
-    let k = here.node;
-    let hash = node::hash(tree, k);
-    let after = s.keep(
-        words,
-        set.table,
-        hash,
-        here.depth as i8,
-        loc.best,
-        loc.mv,
-        Bound::Lower,
-    );
-    let l = Loc {
-        alpha: loc.alpha,
-        best: loc.best,
-        mv: loc.mv,
-        state: after,
-    };
+    let hash = node::hash(tree, here.node);
+    let depth = here.depth as i8;
+    let state = loc
+        .state
+        .keep(words, set.table, hash, depth, loc.best, loc.mv, Bound::Lower);
     if node::is_quiet(tree, c) {
         let hh = history_max(set);
         credit(tree, history, hh, here, place, loc.mv, i);
     }
-    Turn { done: true, loc: l }
+    Loc { state, ..loc }
 }

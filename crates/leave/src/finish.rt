@@ -9,6 +9,7 @@ use carry::{Here, Loc, Turn};
 use record::node;
 use score::{add16, neg16};
 use state::{Out, Settings};
+use std::ops::ControlFlow;
 use transposition::Bound;
 
 // -INF + ply in check, else 0.
@@ -64,16 +65,13 @@ pub fn finish(tree: &[u8], words: &mut [u64], set: Settings, here: Here, w: Turn
     requires blocked { Blocked tree.now }
     requires node_bound { here.node < nodes_of tree.now }
     requires in_bounds { (2 ≤ length words.old) × ((here.depth ≤ 31) × (here.ply ≤ 32767)) }
-    ensures { over result words.new ≡ finish_if w.done tree.now set here w.loc words.old }
+    ensures { over result words.new ≡ finish_if w tree.now set here words.old }
 {
-    let loc = w.loc;
-    let s = loc.state;
-    if w.done {
-        return s.answer(loc.best);
+    match w {
+        ControlFlow::Break(loc) => loc.state.answer(loc.best),
+        ControlFlow::Continue(loc) if node::child_count(tree, here.node) == 0 => {
+            loc.state.answer(game_end(tree, set, here))
+        }
+        ControlFlow::Continue(loc) => store_best(tree, words, set, here, loc),
     }
-    let k = here.node;
-    if node::child_count(tree, k) == 0 {
-        return s.answer(game_end(tree, set, here));
-    }
-    store_best(tree, words, set, here, loc)
 }

@@ -16,7 +16,7 @@ use Rattle.state.specs.Accepted.{AcceptedBy}
 use Rattle.moves.specs.Kid.{Kid}
 use Rattle.moves.specs.Order.{order_at, child_of}
 use Rattle.state.specs.declared.Settings.{Settings}
-use Rattle.moves.specs.declared.Place.{Place}
+use Rattle.std.specs.declared.option.Option.{Option}
 use Rattle.moves.proofs.Ordered.{Among, order_among}
 
 -- the children that a node's first child and count name lie in the tree
@@ -37,7 +37,7 @@ module _ (set : Settings) (t : List ℕ) (ok : AcceptedBy set t) where
   pub level_low : (k : ℕ) → level_of t k ≤ 100
   level_low k = level_most set.inf set.max_ply t ok k
 
-  pub kid : (k i : ℕ) (p : Place) → k < nodes_of t → Among (count_of t k) p → i < count_of t k → Kid t k (child_of t k p i)
+  pub kid : (k i : ℕ) (p : Option ℕ) → k < nodes_of t → Among (count_of t k) p → i < count_of t k → Kid t k (child_of t k p i)
   unfolding child_of
   kid k i p h a l =
       let o = order_among (count_of t k) i p a l in

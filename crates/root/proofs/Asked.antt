@@ -7,7 +7,7 @@ use Rattle.tree.specs.Blocks.{nodes_of}
 use Rattle.record.specs.Node.{first_of, count_of}
 use Rattle.tree.proofs.Accepted.{nodes_least}
 use Rattle.state.specs.declared.Settings.{Settings}
-use Rattle.moves.specs.declared.Place.{Place}
+use Rattle.std.specs.declared.option.Option.{Option}
 use Rattle.state.specs.Accepted.{AcceptedBy}
 use Rattle.moves.specs.Kid.{Kid}
 use Rattle.moves.specs.Order.{child_of}
@@ -32,5 +32,5 @@ module _ (set : Settings) (t : List ℕ) (ok : AcceptedBy set t) where
   root_in = omega (arith, nodes_least set.inf set.max_ply t ok)
 
   -- the i-th of the root's n moves leads to a child
-  pub root_kid : (best : Best) (p : Place) (n i : ℕ) → p ≡ place_root t best → n ≡ count_of t 0 → i < n → Kid t 0 (child_of t 0 p i)
+  pub root_kid : (best : Best) (p : Option ℕ) (n i : ℕ) → p ≡ place_root t best → n ≡ count_of t 0 → i < n → Kid t 0 (child_of t 0 p i)
   root_kid best p n i ep en lt = kid set t ok 0 i p root_in (subst (Among (count_of t 0)) (sym ep) (root_among t best)) (omega (arith, en))

@@ -9,7 +9,7 @@ use Rattle.record.specs.Node.{count_of}
 use Rattle.state.specs.declared.Settings.{Settings}
 use Rattle.state.specs.declared.State.{State}
 use Rattle.state.specs.declared.Out.{Out}
-use Rattle.moves.specs.declared.Place.{Place}
+use Rattle.std.specs.declared.option.Option.{Option}
 use Rattle.moves.specs.Order.{child_of}
 use Rattle.carry.specs.declared.Args.{Args}
 use Rattle.carry.specs.Carry.{With, with}
@@ -26,7 +26,7 @@ module _ (v : Visit) (t : List ℕ) (set : Settings) (depth : ℕ) where
   turn_is w c words hist st a r es ea er = ap (judged t w c) (er ∙ ap₂ (λ (x : State) (y : Args). v x words hist y) es ea)
 
   -- the rest of a walk: n moves, the i-th is next
-  module _ (p : Place) (n i : ℕ) (w : Walked) (words : List ℕ) (hist : List ℤ) where
+  module _ (p : Option ℕ) (n i : ℕ) (w : Walked) (words : List ℕ) (hist : List ℤ) where
     module _ (q : Walked) (lt : i < n) (eq : q ≡ polled_of set w) where
       step : walk_f v t set depth p (n - i) i (with w words hist) ≡ polled_f v t set depth q (child_of t 0 p i) words hist (walk_f v t set depth p (n - (i + 1)) (i + 1))
       unfolding walk_f
@@ -52,8 +52,8 @@ module _ (v : Visit) (t : List ℕ) (set : Settings) (depth : ℕ) where
     walk_over le = let e : n - i ≡ 0 = omega arith in ap (λ (m : ℕ). walk_f v t set depth p m i (with w words hist)) e
 
   -- the whole walk
-  pub walk_whole : (best : Best) (st : State) (words : List ℕ) (hist : List ℤ) (p : Place) (n : ℕ) (w : Walked) → p ≡ place_root t best → n ≡ count_of t 0 → w ≡ begin_of set st
+  pub walk_whole : (best : Best) (st : State) (words : List ℕ) (hist : List ℤ) (p : Option ℕ) (n : ℕ) (w : Walked) → p ≡ place_root t best → n ≡ count_of t 0 → w ≡ begin_of set st
       → walk_f v t set depth p n 0 (with w words hist) ≡ walk_all v t set best depth st words hist
   walk_whole best st words hist p n w ep en ew =
-      ap₂ (λ (x : Place) (y : ℕ). walk_f v t set depth x y 0 (with w words hist)) ep en
+      ap₂ (λ (x : Option ℕ) (y : ℕ). walk_f v t set depth x y 0 (with w words hist)) ep en
       ∙ ap (λ (x : Walked). walk_f v t set depth (place_root t best) (count_of t 0) 0 (with x words hist)) ew

@@ -6,7 +6,7 @@ use Rattle.record.specs.Node.{count_of}
 use Rattle.state.specs.declared.Settings.{Settings}
 use Rattle.state.specs.declared.State.{State}
 use Rattle.state.specs.declared.Out.{Out}
-use Rattle.moves.specs.declared.Place.{Place}
+use Rattle.std.specs.declared.option.Option.{Option}
 use Rattle.moves.specs.Order.{child_of}
 use Rattle.carry.specs.Carry.{With, with, beside}
 use Rattle.visits.specs.Search.{Visit, node_search}
@@ -31,7 +31,7 @@ abbrev pub polled_f : Visit → List ℕ → Settings → ℕ → Walked → ℕ
 polled_f v t set depth w c words hist go = stop_if w.state.stop v t set depth w c words hist go
 
 -- the rest of a walk: n moves to go, the next is the i-th
-unfoldable pub walk_f : Visit → List ℕ → Settings → ℕ → Place → ℕ → ℕ → With Walked → With Walked
+unfoldable pub walk_f : Visit → List ℕ → Settings → ℕ → Option ℕ → ℕ → ℕ → With Walked → With Walked
 walk_f v t set depth p zero i w = w
 walk_f v t set depth p (suc n) i w =
     polled_f v t set depth (polled_of set w.it) (child_of t 0 p i) w.words w.history (walk_f v t set depth p n (i + 1))

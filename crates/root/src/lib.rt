@@ -59,17 +59,13 @@ fn root_walk(
     let n = node::child_count(tree, 0);
     let place = root_steps::place_of(tree, best);
     let mut w = root_steps::begin(set, st);
-    let mut i: usize = 0;
-    while i < n {
-        let p = root_steps::polled(set, w);
-        let s = p.state;
-        let stop = s.stop;
-        if stop {
-            return p;
+    for i in 0..n {
+        w = root_steps::polled(set, w);
+        if w.state.stop {
+            return w;
         }
         let c = moves::child(tree, 0, place, i);
-        w = root_turn(tree, words, history, set, depth, p, c);
-        i += 1;
+        w = root_turn(tree, words, history, set, depth, w, c);
     }
     w
 }
@@ -110,17 +106,14 @@ fn deepening(
         depths_f (node_search tree.now set) tree.now set (end - start) start (with begin words.old history.old) }
 {
     let mut d = begin;
-    let mut depth = start;
-    while depth < end {
+    for depth in start..end {
         if root_steps::mated(set, d, depth) {
             return d;
         }
         d = root_depth(tree, words, history, set, d, depth);
-        let over = d.over;
-        if over {
+        if d.over {
             return d;
         }
-        depth += 1;
     }
     d
 }

@@ -9,7 +9,7 @@ use Rattle.record.specs.Node.{first_of, count_of, move_of, hash_of}
 use Rattle.state.specs.declared.Settings.{Settings}
 use Rattle.state.specs.declared.State.{State}
 use Rattle.state.specs.declared.Out.{Out}
-use Rattle.moves.specs.declared.Place.{Place}
+use Rattle.std.specs.declared.option.Option.{Option}
 use Rattle.moves.specs.Order.{place_of}
 use Rattle.state.specs.State.{Over, over, poll_of, count_node, keep_of}
 use Rattle.carry.specs.declared.Args.{Args}
@@ -50,7 +50,7 @@ abbrev pub begin_of : Settings → State → Walked
 begin_of set s = record { any = false; alpha = neg16 set.inf; mv = 0; state = s }
 
 -- 000: "if !best_move.is_null() { self.moves.add_move(best_move) }"
-unfoldable pub place_root : List ℕ → Best → Place
+unfoldable pub place_root : List ℕ → Best → Option ℕ
 place_root t b = place_of t (first_of t 0) (count_of t 0) b.mv
 
 abbrev pub polled_of : Settings → Walked → Walked

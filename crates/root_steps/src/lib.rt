@@ -8,7 +8,6 @@ ghost use Rattle.state.specs.State.{over};
 ghost use Rattle.root_steps.specs.Step.{fresh_stats, fresh_of, mate_of, mated_of, begin_of, place_root, polled_of, counted_of, down_of, judge_of, score_of, shifted_of, kept_of, saved_of};
 
 use carry::Args;
-use moves::Place;
 use record::node;
 use score::neg16;
 use state::{Out, Settings, State};
@@ -119,7 +118,7 @@ pub fn begin(set: Settings, st: State) -> Walked
 }
 
 // The place of the move saved before.
-pub fn place_of(tree: &[u8], best: Best) -> Place
+pub fn place_of(tree: &[u8], best: Best) -> Option<usize>
     requires laid { Laid tree.now }
     requires tree_nonzero { 0 < nodes_of tree.now }
     ensures { result ≡ place_root tree.now best }

@@ -12,7 +12,7 @@ use Rattle.record.specs.Node.{count_of, move_of}
 use Rattle.state.specs.declared.Settings.{Settings}
 use Rattle.state.specs.declared.State.{State}
 use Rattle.state.specs.declared.Out.{Out}
-use Rattle.moves.specs.declared.Place.{Place}
+use Rattle.std.specs.declared.option.Option.{Option}
 use Rattle.state.specs.Accepted.{AcceptedBy}
 use Rattle.moves.specs.Kid.{Kid}
 use Rattle.moves.specs.Order.{child_of}
@@ -59,7 +59,7 @@ NodeSearchAgain =
 
 -- a walk's rest reads only what is left of it
 next_same
-    : (b : Bool) (t : List ℕ) (set : Settings) (h : Here) (p : Place) (c i : ℕ) (s : With Turn) (f g : Loc → List ℕ → List ℤ → With Turn)
+    : (b : Bool) (t : List ℕ) (set : Settings) (h : Here) (p : Option ℕ) (c i : ℕ) (s : With Turn) (f g : Loc → List ℕ → List ℤ → With Turn)
     → ((l : Loc) (words : List ℕ) (hist : List ℤ) → f l words hist ≡ g l words hist) → next_if b t set h p c i s f ≡ next_if b t set h p c i s g
 unfolding next_if
 next_same true t set h p c i s f g e = refl
@@ -111,7 +111,7 @@ module _ (t : List ℕ) (set : Settings) (ok : AcceptedBy set t) where
       turn-same false l i words hist = futile-same (futile_of t set h l c) l i words hist
 
     walk_same
-        : (p : Place) → Among (count_of t h.node) p → (j i : ℕ) → i + j ≤ count_of t h.node → (l : Loc) (words : List ℕ) (hist : List ℤ)
+        : (p : Option ℕ) → Among (count_of t h.node) p → (j i : ℕ) → i + j ≤ count_of t h.node → (l : Loc) (words : List ℕ) (hist : List ℤ)
         → walk_f v t set h p j i l words hist ≡ walk_f w t set h p j i l words hist
     unfolding walk_f
     walk_same p a zero i le l words hist = refl

@@ -9,10 +9,11 @@ ghost use Rattle.visits.specs.Reach.{Ready, Reach, Inside, need};
 ghost use Rattle.visits.specs.Search.{capture_of, visit_f, deepen_f, walk_here, turn_f, reduced_f, widen_f};
 
 use capture_steps::Capture;
-use carry::{Args, Entered, Here, Loc, Turn};
+use carry::{Args, Here, Loc, Turn};
 use leave::{cutoff, finish};
 use record::node;
 use state::{Out, Settings, State};
+use std::ops::ControlFlow;
 use table::Stats;
 use turn::{prune, window};
 
@@ -37,13 +38,11 @@ fn rebuilt(s: State) -> State
 }
 
 // What the walk goes on with after a turn, rebuilt as well.
-fn goes_on(t: Turn) -> Loc
-    ensures { result ≡ t.loc }
+fn goes_on(loc: Loc) -> Loc
+    ensures { result ≡ loc }
 {
-    let loc = t.loc;
-    let s = loc.state;
     Loc {
-        state: rebuilt(s),
+        state: rebuilt(loc.state),
         alpha: loc.alpha,
         best: loc.best,
         mv: loc.mv,
@@ -92,10 +91,9 @@ pub fn search_node(
         let q = captures::captures(tree, words, set, rebuilt(s), capture_of(x));
         return q;
     }
-    let e = enter::enter(tree, words, set, s, x);
-    match e {
-        Entered::Answer(o) => o,
-        Entered::Moves(here, loc) => {
+    match enter::enter(tree, words, set, s, x) {
+        ControlFlow::Break(o) => o,
+        ControlFlow::Continue((here, loc)) => {
             let l = deepen(tree, words, history, set, here, loc);
             let w = walk(tree, words, history, set, here, l);
             finish::finish(tree, words, set, here, w)
@@ -147,18 +145,19 @@ fn walk(
     let n = node::child_count(tree, k);
     let place = enter::hint_place(tree, here, loc);
     let mut l = loc;
-    let mut i: usize = 0;
-    while i < n {
+    for i in 0..n {
         let c = moves::child(tree, k, place, i);
-        let t = turn(tree, words, history, set, here, l, c, i);
-        let done = t.done;
-        l = goes_on(t);
-        if done {
-            return cutoff::cutoff(tree, words, history, set, here, place, l, c, i);
+        match turn(tree, words, history, set, here, l, c, i) {
+            ControlFlow::Continue(after) => l = goes_on(after),
+            ControlFlow::Break(after) => {
+                let cut = goes_on(after);
+                return ControlFlow::Break(cutoff::cutoff(
+                    tree, words, history, set, here, place, cut, c, i,
+                ));
+            }
         }
-        i += 1;
     }
-    window::unfinished(l)
+    ControlFlow::Continue(l)
 }
 
 // One move: the first in the full window, a futile one skipped, the others in a null window first.
@@ -189,7 +188,7 @@ fn turn(
         return window::judge(here, window::first(tree, l, c, r), mv, r);
     }
     if prune::futile(tree, set, here, l, c) {
-        return window::unfinished(l);
+        return ControlFlow::Continue(l);
     }
     let d = prune::reduction(tree, set, here, c, i);
     let r = reduced(tree, words, history, set, here, l, c, d);

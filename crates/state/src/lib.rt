@@ -1,11 +1,11 @@
 // What both kinds of visit share: the settings, the state of a search, the poll, the count, and the table through its switch.
 #![tactic(auto)]
 
-ghost use Rattle.std.specs.Prelude.{◌≡◌, ◌≤◌, ◌&&◌, length, int_le};
+ghost use Rattle.std.specs.Prelude.{◌≡◌, ◌≤◌, length};
 ghost use Rattle.state.specs.State.{poll_of, count_node, answer_of, seen_of, over, keep_of};
-ghost use Rattle.state.specs.Consult.{narrowed, use_of, use_if, consult_of, hint_of};
+ghost use Rattle.state.specs.Consult.{stay, narrowed, use_of, consult_of, hint_of};
 
-use table::{Found, Stats};
+use table::{Found, Looked, Stats};
 use transposition::{Bound, Entry};
 
 // The settings of 01 and its six switches.
@@ -46,11 +46,10 @@ pub struct Seen {
     pub state: State,
 }
 
-// What the table makes of a window: it cuts with a score, or leaves a window and a hint.
+// What the table makes of a window: a score that cuts, if any, the window that it leaves and its hint.
 #[derive(Clone, Copy)]
 pub struct Consulted {
-    pub cut: bool,
-    pub score: i16,
+    pub cut: Option<i16>,
     pub alpha: i16,
     pub beta: i16,
     pub hint: u16,
@@ -58,50 +57,43 @@ pub struct Consulted {
 
 impl State {
     // The limit poll. A stop stays.
-    pub fn poll(self, limit: u64) -> State
+    #[tactic(auto, unfolding(crate::specs::State::poll_of))]
+    pub fn poll(mut self, limit: u64) -> State
         ensures { result ≡ poll_of limit self }
     {
-        let mut s = self;
-        if limit <= s.nodes {
-            s.stop = true;
+        if limit <= self.nodes {
+            self.stop = true;
         }
-        s
+        self
     }
 
     // One node more.
-    pub fn count_node(self) -> State
+    #[tactic(auto, unfolding(crate::specs::State::count_node))]
+    pub fn count_node(mut self) -> State
         ensures { result ≡ count_node self }
     {
-        let mut s = self;
-        s.nodes = std::num::wrapping_add_u64(s.nodes, 1);
-        s
+        self.nodes = self.nodes.wrapping_add(1);
+        self
     }
 
     // A score, with this state.
     pub fn answer(self, score: i16) -> Out
         ensures { result ≡ answer_of score self }
     {
-        Out {
-            score: score,
-            state: self,
-        }
+        Out { score, state: self }
     }
 
     // A lookup, if the table switch is on; else a miss that is not counted.
+    #[tactic(auto, unfolding(crate::specs::State::seen_of))]
     pub fn look(self, words: &[u64], on: bool, hash: u64) -> Seen
         requires { 2 ≤ length words.now }
         ensures { result ≡ seen_of on words.now self hash }
     {
         if on {
-            let stats = self.stats;
-            let l = table::lookup(words, stats, hash);
-            let found = l.found;
-            let after = l.stats;
-            let mut s = self;
-            s.stats = after;
+            let Looked { found, stats } = table::lookup(words, self.stats, hash);
             return Seen {
-                found: found,
-                state: s,
+                found,
+                state: State { stats, ..self },
             };
         }
         Seen {
@@ -111,6 +103,7 @@ impl State {
     }
 
     // A store, if the table switch is on.
+    #[tactic(auto, unfolding(crate::specs::State::keep_of))]
     pub fn keep(
         self,
         words: &mut [u64],
@@ -125,13 +118,22 @@ impl State {
         ensures { over result words.new ≡ keep_of on words.old self hash depth score mv bound }
     {
         if on {
-            let stats = self.stats;
-            let after = table::store(words, stats, hash, depth, score, mv, bound);
-            let mut s = self;
-            s.stats = after;
-            return s;
+            let stats = table::store(words, self.stats, hash, depth, score, mv, bound);
+            return State { stats, ..self };
         }
         self
+    }
+}
+
+// The window as it is, with a hint.
+fn stay(hint: u16, alpha: i16, beta: i16) -> Consulted
+    ensures { result ≡ stay hint alpha beta }
+{
+    Consulted {
+        cut: None,
+        alpha,
+        beta,
+        hint,
     }
 }
 
@@ -139,96 +141,51 @@ impl State {
 fn narrow(e: Entry, alpha: i16, beta: i16) -> Consulted
     ensures { result ≡ narrowed e alpha beta }
 {
+    let cut = if beta <= alpha { Some(e.score) } else { None };
     Consulted {
-        cut: beta <= alpha,
-        score: e.score,
-        alpha: alpha,
-        beta: beta,
+        cut,
+        alpha,
+        beta,
         hint: e.mv,
     }
 }
 
 // What a stored entry makes of the window, where its depth is enough.
+#[tactic(auto, unfolding(crate::specs::Consult::by_bound))]
 fn use_entry(e: Entry, alpha: i16, beta: i16) -> Consulted
     ensures { result ≡ use_of e alpha beta }
 {
-    let bound = e.bound;
-    let score = e.score;
-    match bound {
+    match e.bound {
         Bound::Exact => Consulted {
-            cut: true,
-            score: score,
-            alpha: alpha,
-            beta: beta,
+            cut: Some(e.score),
+            alpha,
+            beta,
             hint: e.mv,
         },
-        Bound::Lower => {
-            if alpha < score {
-                return narrow(e, score, beta);
-            }
-            narrow(e, alpha, beta)
-        }
-        Bound::Upper => {
-            if score < beta {
-                return narrow(e, alpha, score);
-            }
-            narrow(e, alpha, beta)
-        }
-    }
-}
-
-// Whether an entry counts: it is usable here, and at least as deep.
-fn counts(e: Entry, usable: bool, depth: i8) -> bool
-    ensures { result ≡ (usable && int_le depth e.depth) }
-{
-    if usable { depth <= e.depth } else { false }
-}
-
-fn consult_entry(e: Entry, usable: bool, depth: i8, alpha: i16, beta: i16) -> Consulted
-    ensures { result ≡ use_if (usable && int_le depth e.depth) e alpha beta }
-{
-    if counts(e, usable, depth) {
-        return use_entry(e, alpha, beta);
-    }
-    Consulted {
-        cut: false,
-        score: e.score,
-        alpha: alpha,
-        beta: beta,
-        hint: e.mv,
+        Bound::Lower => narrow(e, e.score.max(alpha), beta),
+        Bound::Upper => narrow(e, alpha, beta.min(e.score)),
     }
 }
 
 // What a lookup makes of the window.
+#[tactic(auto, unfolding(crate::specs::Consult::consult_of, crate::specs::Consult::use_if))]
 pub fn consult(found: Found, usable: bool, depth: i8, alpha: i16, beta: i16) -> Consulted
     ensures { result ≡ consult_of found usable depth alpha beta }
 {
     match found {
-        Found::Hit(e) => consult_entry(e, usable, depth, alpha, beta),
-        Found::Miss => Consulted {
-            cut: false,
-            score: 0,
-            alpha: alpha,
-            beta: beta,
-            hint: 0,
-        },
-        Found::Collision => Consulted {
-            cut: false,
-            score: 0,
-            alpha: alpha,
-            beta: beta,
-            hint: 0,
-        },
+        Found::Hit(e) if usable && depth <= e.depth => use_entry(e, alpha, beta),
+        Found::Hit(e) => stay(e.mv, alpha, beta),
+        Found::Miss | Found::Collision => stay(0, alpha, beta),
     }
 }
 
 // The move of an entry that was found, 0 where none was.
+#[tactic(auto, unfolding(crate::specs::Consult::hint_of))]
 pub fn hint_of(found: Found) -> u16
     ensures { result ≡ hint_of found }
 {
     match found {
         Found::Hit(e) => e.mv,
-        Found::Miss => 0,
-        Found::Collision => 0,
+        Found::Miss | Found::Collision => 0,
     }
 }

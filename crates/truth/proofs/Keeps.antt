@@ -10,7 +10,7 @@ use Rattle.state.specs.declared.Settings.{Settings}
 use Rattle.state.specs.declared.State.{State}
 use Rattle.state.specs.declared.Out.{Out}
 use Rattle.state.specs.declared.Consulted.{Consulted}
-use Rattle.moves.specs.declared.Place.{Place}
+use Rattle.std.specs.declared.option.Option.{Option}
 use Rattle.carry.specs.declared.Args.{Args}
 use Rattle.carry.specs.declared.Here.{Here}
 use Rattle.carry.specs.declared.Loc.{Loc}
@@ -95,18 +95,18 @@ module _ (t : List ℕ) (set : Settings) (Q : State → Type 0) (cl : Closed set
   turn-q true v h l c i words hist kv q = judge_q h _ _ _ (kv _ _ _ _ q)
   turn-q false v h l c i words hist kv q = futile-q _ v h l c i words hist kv q
 
-  cutoff-q : (h : Here) (p : Place) (c i : ℕ) (l : Loc) (words : List ℕ) (hist : List ℤ) → Q l.state → Q (cutoff_of t set h p c i l words hist).it.loc.state
+  cutoff-q : (h : Here) (p : Option ℕ) (c i : ℕ) (l : Loc) (words : List ℕ) (hist : List ℤ) → Q l.state → Q (cutoff_of t set h p c i l words hist).it.loc.state
   unfolding cutoff_of
   cutoff-q h p c i l words hist q = keep_q set Q cl set.table words l.state _ _ _ _ _ q
 
   pub next_q
-      : (b : Bool) (h : Here) (p : Place) (c i : ℕ) (s : With Turn) (go : Loc → List ℕ → List ℤ → With Turn)
+      : (b : Bool) (h : Here) (p : Option ℕ) (c i : ℕ) (s : With Turn) (go : Loc → List ℕ → List ℤ → With Turn)
       → KeepsW go → Q s.it.loc.state → Q (next_if b t set h p c i s go).it.loc.state
   unfolding next_if
   next_q true h p c i s go kg q = cutoff-q h p c i s.it.loc s.words s.history q
   next_q false h p c i s go kg q = kg _ _ _ q
 
-  pub walk_q : (v : Visit) (h : Here) (p : Place) (n i : ℕ) → KeepsV v → KeepsW (walk_f v t set h p n i)
+  pub walk_q : (v : Visit) (h : Here) (p : Option ℕ) (n i : ℕ) → KeepsV v → KeepsW (walk_f v t set h p n i)
   unfolding walk_f
   walk_q v h p zero i kv l words hist q = q
   walk_q v h p (suc n) i kv l words hist q =

@@ -9,7 +9,7 @@ use Rattle.state.specs.declared.Settings.{Settings}
 use Rattle.state.specs.declared.State.{State}
 use Rattle.state.specs.declared.Out.{Out}
 use Rattle.state.specs.declared.Consulted.{Consulted}
-use Rattle.moves.specs.declared.Place.{Place}
+use Rattle.std.specs.declared.option.Option.{Option}
 use Rattle.state.specs.State.{Over}
 use Rattle.moves.specs.Order.{child_of}
 use Rattle.capture_steps.specs.declared.Capture.{Capture}
@@ -78,7 +78,7 @@ module _ (set : Settings) (t : List ℕ) (Q : State → Type 0) (cl : Closed set
   next_q true s go kg q = q
   next_q false s go kg q = kg _ _ q
 
-  pub walk_q : (v : Visit) (h : Here) (p : Place) (n i : ℕ) → KeepsV v → KeepsW (walk_f v set t h p n i)
+  pub walk_q : (v : Visit) (h : Here) (p : Option ℕ) (n i : ℕ) → KeepsV v → KeepsW (walk_f v set t h p n i)
   unfolding walk_f
   walk_q v h p zero i kv l words q = q
   walk_q v h p (suc n) i kv l words q =

@@ -17,8 +17,8 @@ use Rattle.record.specs.Node.{first_of, count_of, move_of, in_check, is_draw}
 use Rattle.state.specs.declared.Settings.{Settings}
 use Rattle.state.specs.declared.State.{State}
 use Rattle.state.specs.declared.Out.{Out}
-use Rattle.moves.specs.declared.Place.{Place}
-use Rattle.moves.specs.declared.Place.TheVariants.{Nowhere}
+use Rattle.std.specs.declared.option.Option.{Option}
+use Rattle.moves.specs.declared.Place.TheVariants.{None}
 use Rattle.state.specs.State.{poll_of, count_node, seen_of, keep_of}
 use Rattle.state.specs.Consult.{consult_of}
 use Rattle.moves.specs.Order.{place_of, order_at, child_of}
@@ -36,7 +36,7 @@ use Rattle.visits.specs.Search.{Visit, capture_of, widen_if, again_if, reduced_f
 use Rattle.minimax.specs.Minimax.{child_at, greatest, none, checked, end_of, of_children, of_draw, of_depth, depth_at, minimax_v}
 use Rattle.truth.proofs.Closed.{Stopped, stays, back}
 use Rattle.truth.proofs.Keeps as keeps
-use Rattle.truth.proofs.Settled.{plain_of, Known, At, kid_at}
+use Rattle.truth.proofs.Settled.{plain_of, Known, Some, kid_at}
 use Rattle.truth.proofs.Ranges.{best_of, zero_in, neg_z, greatest-off, end_in, end_is, minimax_in}
 use Rattle.truth.proofs.Tells.{Tells, Window, same_tells, neg_tells, neg_window, raised_window, null_window, null-tells, outside-tells}
 use Rattle.truth.proofs.TruthCaptures.{Truth, captures-ok}
@@ -100,7 +100,7 @@ module _ (n : ℕ) (set : Settings) (t : List ℕ) (ok : Known n set.max_ply t) 
 
   -- one move: a child's answer, as the walk takes it
 
-  module _ (h : Here) (pl : Place) (c i : ℕ) (go : Go) (alpha : ℤ) (m u : ℕ) where
+  module _ (h : Here) (pl : Option ℕ) (c i : ℕ) (go : Go) (alpha : ℤ) (m u : ℕ) where
     done_ok
         : (b : Bool) (words : List ℕ) (hist : List ℤ) (l : Loc) (x : ℤ) (mv : ℕ) (s : State) (y v : ℕ)
         → b ≡ le_z h.beta x → Point h go l alpha m u → off l.alpha < off x → Tells n (off l.alpha) (off h.beta) (off x) y → v ≡ max (max m y) u
@@ -151,7 +151,7 @@ module _ (n : ℕ) (set : Settings) (t : List ℕ) (ok : Known n set.max_ply t) 
         : (side : ℕ) (alpha beta : ℤ) (s : State) (words : List ℕ) (hist : List ℤ) → Window n alpha beta
         → Told (v s words hist (record { node = c; side = side; alpha = alpha; beta = beta; depth = depth; ply = ply })).it alpha beta (off y)
 
-  module _ (v : Visit) (h : Here) (pl : Place) (c i : ℕ) (go : Go) (y alpha : ℤ) (m u w : ℕ) (kid : KidOk v c (h.depth - 1) (h.ply + 1) y) (ew : w ≡ max (max m (65536 - off y)) u) where
+  module _ (v : Visit) (h : Here) (pl : Option ℕ) (c i : ℕ) (go : Go) (y alpha : ℤ) (m u w : ℕ) (kid : KidOk v c (h.depth - 1) (h.ply + 1) y) (ew : w ≡ max (max m (65536 - off y)) u) where
     -- after a search of the child in the whole window
     full-ok
         : (l l2 : Loc) (mv : ℕ) (s : State) (words : List ℕ) (hist : List ℤ) → l2.alpha ≡ l.alpha → Point h go l2 alpha m u
@@ -205,16 +205,16 @@ module _ (n : ℕ) (set : Settings) (t : List ℕ) (ok : Known n set.max_ply t) 
 
   walk-ok
       : (v : Visit) (h : Here) (f : ℕ → ℤ) (alpha : ℤ) → Window n alpha h.beta → KeepsV v → Kids v h.node h.depth h.ply f
-      → (m i : ℕ) → eqb i 0 ≡ false → i + m ≤ count_of t h.node → Rest alpha h.beta (best_of none f m i) (walk_f v t S h Nowhere m i)
+      → (m i : ℕ) → eqb i 0 ≡ false → i + m ≤ count_of t h.node → Rest alpha h.beta (best_of none f m i) (walk_f v t S h None m i)
   unfolding walk_f best_of child_of order_at
   walk-ok v h f alpha win kv kids zero i ei le l words hist m w a lt ew = λ _.
       let win2 = raised_window n ok.inf_high alpha h.beta win l.alpha m a lt in
       record { range = win2.alpha_in; under = omega arith; over = omega arith }
   walk-ok v h f alpha win kv kids (suc j) i ei le l words hist m w a lt ew =
-      turn-ok v h Nowhere (first_of t h.node + i) i (walk_f v t S h Nowhere j (i + 1)) (f i) alpha m (best_of none f j (i + 1)) w
+      turn-ok v h None (first_of t h.node + i) i (walk_f v t S h None j (i + 1)) (f i) alpha m (best_of none f j (i + 1)) w
       (kids i (omega arith)) (omega arith) (eqb i 0) (counted_of l) words hist ei (record {
         rest = walk-ok v h f alpha win kv kids j (i + 1) (ne_eqb (i + 1) 0 (λ z. omega arith)) (omega arith);
-        keeps = keeps.walk_q t S Stopped (stays S) v h Nowhere j (i + 1) kv;
+        keeps = keeps.walk_q t S Stopped (stays S) v h None j (i + 1) kv;
         window = win;
         is_max = a;
         below = lt;
@@ -235,7 +235,7 @@ module _ (n : ℕ) (set : Settings) (t : List ℕ) (ok : Known n set.max_ply t) 
   finish-ok false h l words alpha beta v e k = end-not _ h l words alpha beta v e k
 
   -- else the end of the game
-  end-ok : (b : Bool) (h : Here) (l : Loc) (words : List ℕ) (alpha beta : ℤ) → b ≡ true → At t h.node h.ply → Told (end_if b t S h l words).it alpha beta (off (end_of (in_check t h.node) (pos n) h.ply))
+  end-ok : (b : Bool) (h : Here) (l : Loc) (words : List ℕ) (alpha beta : ℤ) → b ≡ true → Some t h.node h.ply → Told (end_if b t S h l words).it alpha beta (off (end_of (in_check t h.node) (pos n) h.ply))
   unfolding end_if
   end-ok true h l words alpha beta e p =
       rw (end_is n set t ok (in_check t h.node) h.node h.ply p) (λ _. same_tells n (off alpha) (off beta) _ (end_in n set t ok (in_check t h.node) h.node h.ply p))
@@ -245,40 +245,40 @@ module _ (n : ℕ) (set : Settings) (t : List ℕ) (ok : Known n set.max_ply t) 
   first-ok
       : (j : ℕ) (v : Visit) (h : Here) (f : ℕ → ℤ) (l : Loc) (words : List ℕ) (hist : List ℤ) (w : ℕ) → suc j ≡ count_of t h.node
       → Window n l.alpha h.beta → KeepsV v → Kids v h.node h.depth h.ply f → w ≡ max (65536 - off (f 0)) (best_of none f j 1)
-      → Left (walk_f v t S h Nowhere (suc j) 0 l words hist).it l.alpha h.beta w
+      → Left (walk_f v t S h None (suc j) 0 l words hist).it l.alpha h.beta w
   unfolding walk_f turn_if child_of order_at
   first-ok j v h f l words hist w em win kv kids ew =
       let c = first_of t h.node + 0 in
       let s = count_node l.state in
       let r = v s words hist (full_of h (counted_of l) c) in
       let o = win.order in
-      full-ok v h Nowhere c 0 (walk_f v t S h Nowhere j (0 + 1)) (f 0) l.alpha 0 (best_of none f j 1) w (kids 0 (omega arith)) (omega arith)
+      full-ok v h None c 0 (walk_f v t S h None j (0 + 1)) (f 0) l.alpha 0 (best_of none f j 1) w (kids 0 (omega arith)) (omega arith)
       (counted_of l) (first_best t (counted_of l) c r.it) (move_of t c) s words hist refl (record {
         rest = walk-ok v h f l.alpha win kv kids j 1 refl (omega arith);
-        keeps = keeps.walk_q t S Stopped (stays S) v h Nowhere j 1 kv;
+        keeps = keeps.walk_q t S Stopped (stays S) v h None j 1 kv;
         window = win;
         is_max = omega arith;
         below = o;
       })
 
   moves-ok
-      : (m : ℕ) (v : Visit) (h : Here) (f : ℕ → ℤ) (l : Loc) (words : List ℕ) (hist : List ℤ) → m ≡ count_of t h.node → At t h.node h.ply
+      : (m : ℕ) (v : Visit) (h : Here) (f : ℕ → ℤ) (l : Loc) (words : List ℕ) (hist : List ℤ) → m ≡ count_of t h.node → Some t h.node h.ply
       → Window n l.alpha h.beta → KeepsV v → Kids v h.node h.depth h.ply f
-      → Told (finish_of t S h (walk_f v t S h Nowhere m 0 l words hist)).it l.alpha h.beta (off (of_children m (end_of (in_check t h.node) (pos n) h.ply) f))
+      → Told (finish_of t S h (walk_f v t S h None m 0 l words hist)).it l.alpha h.beta (off (of_children m (end_of (in_check t h.node) (pos n) h.ply) f))
   unfolding walk_f finish_if of_children
   moves-ok zero v h f l words hist em p win kv kids = end-ok _ h l words l.alpha h.beta (eq-eqb (count_of t h.node) 0 (sym em)) p
   moves-ok (suc j) v h f l words hist em p win kv kids =
       let i0 = (kids 0 (omega arith)).in_range in
       let ni = neg_off n (f 0) ok.inf_high i0 in
       let bi = greatest-off n ok.inf_high none f (neg_ℤ (f 0)) j 1 (neg_z n ok.inf_high (f 0) i0) (λ q z. (kids q (omega arith)).in_range) in
-      let w = walk_f v t S h Nowhere (suc j) 0 l words hist in
+      let w = walk_f v t S h None (suc j) 0 l words hist in
       finish-ok w.it.done h w.it.loc w.words l.alpha h.beta (off (greatest none f (neg_ℤ (f 0)) j 1)) (ne_eqb (count_of t h.node) 0 (λ z. omega arith))
       (first-ok j v h f l words hist (off (greatest none f (neg_ℤ (f 0)) j 1)) em win kv kids (omega arith))
 
   -- the whole visit, at a depth that has the check's extension
 
   record NodeOk (v : Visit) (f : ℕ → ℤ) (a : Args) : Type 0 where
-    place : At t a.node a.ply
+    place : Some t a.node a.ply
     window : Window n a.alpha a.beta
     keeps : KeepsV v
     kids : Kids v a.node a.depth a.ply f
@@ -306,7 +306,7 @@ module _ (n : ℕ) (set : Settings) (t : List ℕ) (ok : Known n set.max_ply t) 
   stop-ok false k v f a s words hist e o = rw (extend_is t a) (depth-ok _ k v f (with_depth a (depth_at t a.node a.depth)) s words hist o)
 
   pub visit-ok
-      : (k : ℕ) (s : State) (words : List ℕ) (hist : List ℤ) (a : Args) → At t a.node a.ply → Window n a.alpha a.beta
+      : (k : ℕ) (s : State) (words : List ℕ) (hist : List ℤ) (a : Args) → Some t a.node a.ply → Window n a.alpha a.beta
       → Told (visit_f k t S s words hist a).it a.alpha a.beta (off (minimax_v k S t a.node (depth_at t a.node a.depth) a.ply))
   unfolding visit_f minimax_v
   visit-ok zero s words hist a p w = λ _. same_tells n (off a.alpha) (off a.beta) _ (zero_in n ok.inf_high)

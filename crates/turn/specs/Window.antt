@@ -2,6 +2,7 @@
 use Rattle.std.specs.Prelude.{Bool, true, false, not, ◌&&◌, List, ℕ, ◌+◌, ◌-◌, eqb, ℤ, pos}
 use Rattle.std.specs.Int.Signed.{lt_z, le_z}
 use Rattle.score.specs.Wrap.{neg16, sub16}
+use Rattle.core.specs.declared.ops.ControlFlow.TheVariants.{Continue, Break}
 use Rattle.record.specs.Node.{move_of}
 use Rattle.state.specs.declared.State.{State}
 use Rattle.state.specs.declared.Out.{Out}
@@ -9,10 +10,7 @@ use Rattle.state.specs.State.{count_node}
 use Rattle.carry.specs.declared.Args.{Args}
 use Rattle.carry.specs.declared.Here.{Here}
 use Rattle.carry.specs.declared.Loc.{Loc}
-use Rattle.carry.specs.declared.Turn.{Turn}
-
-abbrev pub unfinished : Loc → Turn
-unfinished l = record { done = false; loc = l }
+use Rattle.carry.specs.Carry.{Turn}
 
 -- 000: "self.nodes_count += 1"
 abbrev pub counted_of : Loc → Loc
@@ -48,9 +46,13 @@ unfoldable pub inside_of : Here → Loc → Out → Bool
 inside_of h l r = lt_z l.alpha (neg16 r.score) && lt_z (neg16 r.score) h.beta
 
 -- 000: "if score > alpha { if score >= beta { .. } alpha = score; best_score = score; best_move = m; }"
+unfoldable pub beta_if : Bool → Loc → Turn
+beta_if true l = Break l
+beta_if false l = Continue l
+
 unfoldable pub raise_if : Bool → Here → Loc → ℕ → ℤ → State → Turn
-raise_if true h l m x s = record { done = le_z h.beta x; loc = record { alpha = x; best = x; mv = m; state = s } }
-raise_if false h l m x s = unfinished (record { alpha = l.alpha; best = l.best; mv = l.mv; state = s })
+raise_if true h l m x s = beta_if (le_z h.beta x) (record { alpha = x; best = x; mv = m; state = s })
+raise_if false h l m x s = Continue (record { alpha = l.alpha; best = l.best; mv = l.mv; state = s })
 
 unfoldable pub judge_of : Here → Loc → ℕ → Out → Turn
 judge_of h l m r = raise_if (lt_z l.alpha (neg16 r.score)) h l m (neg16 r.score) r.state

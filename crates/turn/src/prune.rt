@@ -15,33 +15,13 @@ pub fn futile(tree: &[u8], set: Settings, here: Here, loc: Loc, c: usize) -> boo
     requires c_bound { c < nodes_of tree.now }
     ensures { result ≡ futile_of tree.now set here loc c }
 {
-    let k = here.node;
-    if !set.futility {
-        return false;
-    }
-    if here.full {
-        return false;
-    }
-    if here.depth >= 6 {
-        return false;
-    }
-    if node::in_check(tree, k) {
-        return false;
-    }
-    if node::in_check(tree, c) {
-        return false;
-    }
-    if !node::is_quiet(tree, c) {
-        return false;
-    }
-    add16(here.eval, 50 * (here.depth as i16)) < loc.alpha
-}
-
-// 1 where a test holds, else 0.
-fn unit(b: bool) -> u8
-    ensures { result ≡ one b }
-{
-    if b { 1 } else { 0 }
+    set.futility
+        && !here.full
+        && here.depth < 6
+        && !node::in_check(tree, here.node)
+        && !node::in_check(tree, c)
+        && node::is_quiet(tree, c)
+        && add16(here.eval, 50 * (here.depth as i16)) < loc.alpha
 }
 
 // Whether a move is late and quiet: i moves were tried before it.
@@ -51,30 +31,17 @@ fn late(tree: &[u8], set: Settings, here: Here, c: usize, i: usize) -> bool
     requires i_bound { i < 63 }
     ensures { result ≡ late_of tree.now set here c i }
 {
-    if !set.late_move {
-        return false;
-    }
-    if !node::is_quiet(tree, c) {
-        return false;
-    }
-    if here.depth <= 2 {
-        return false;
-    }
-    let least = 3 + unit(here.full) as usize;
-    least < i + 1
+    set.late_move
+        && node::is_quiet(tree, c)
+        && here.depth > 2
+        && 3 + usize::from(here.full) < i + 1
 }
 
 // r - less, held to 0..most.
 fn held(r: u8, less: u8, most: u8) -> u8
     ensures { result ≡ min (r - less) most }
 {
-    if r <= less {
-        return 0;
-    }
-    if r - less < most {
-        return r - less;
-    }
-    most
+    r.saturating_sub(less).min(most)
 }
 
 // By how much a late quiet move's depth is reduced.
@@ -90,7 +57,9 @@ pub fn reduction(tree: &[u8], set: Settings, here: Here, c: usize, i: usize) -> 
         return 0;
     }
     let k = here.node;
-    let less = unit(here.full) + unit(node::in_check(tree, k)) + unit(node::in_check(tree, c));
+    let less = u8::from(here.full)
+        + u8::from(node::in_check(tree, k))
+        + u8::from(node::in_check(tree, c));
     held(
         reductions::reduction(here.depth as usize, i + 1),
         less,

@@ -3,34 +3,21 @@ ghost use Rattle.std.specs.Prelude.{◌≡◌, ◌+◌, ◌≤◌, ◌<◌, ◌^
 ghost use Rattle.std.specs.Int.Signed.{lt_z};
 ghost use Rattle.score.specs.Wrap.{neg16};
 ghost use Rattle.tree.specs.Blocks.{Blocked, nodes_of};
-ghost use Rattle.turn.specs.Window.{unfinished, counted_of, full_of, null_of, first_best, again_of, inside_of, judge_of};
+ghost use Rattle.turn.specs.Window.{counted_of, full_of, null_of, first_best, again_of, inside_of, judge_of};
 
 use carry::{Args, Here, Loc, Turn};
 use record::node;
 use score::{neg16, sub16};
 use state::Out;
-
-// A turn after which the walk goes on.
-pub fn unfinished(loc: Loc) -> Turn
-    ensures { result ≡ unfinished loc }
-{
-    Turn {
-        done: false,
-        loc: loc,
-    }
-}
+use std::ops::ControlFlow;
 
 // The move is counted.
 pub fn counted(loc: Loc) -> Loc
     ensures { result ≡ counted_of loc }
 {
-    let s = loc.state;
-    let n = s.count_node();
     Loc {
-        alpha: loc.alpha,
-        best: loc.best,
-        mv: loc.mv,
-        state: n,
+        state: loc.state.count_node(),
+        ..loc
     }
 }
 
@@ -75,12 +62,10 @@ pub fn first(tree: &[u8], loc: Loc, c: usize, r: Out) -> Loc
     requires c_bound { c < nodes_of tree.now }
     ensures { result ≡ first_best tree.now loc c r }
 {
-    let s = loc.state;
     Loc {
-        alpha: loc.alpha,
         best: neg16(r.score),
         mv: node::move_to(tree, c),
-        state: s,
+        ..loc
     }
 }
 
@@ -109,20 +94,14 @@ fn under(score: i16, beta: i16) -> bool
 pub fn again(loc: Loc, d: u8, r: Out) -> bool
     ensures { result ≡ again_of loc d r }
 {
-    if d == 0 {
-        return false;
-    }
-    beats(loc.alpha, r.score)
+    d != 0 && beats(loc.alpha, r.score)
 }
 
 // Whether a null window's score lies strictly inside the window.
 pub fn inside(here: Here, loc: Loc, r: Out) -> bool
     ensures { result ≡ inside_of here loc r }
 {
-    if beats(loc.alpha, r.score) {
-        return under(r.score, here.beta);
-    }
-    false
+    beats(loc.alpha, r.score) && under(r.score, here.beta)
 }
 
 // What a child's answer makes of the walk: nothing, a higher alpha, or a cutoff.
@@ -130,23 +109,19 @@ pub fn judge(here: Here, loc: Loc, mv: u16, r: Out) -> Turn
     ensures { result ≡ judge_of here loc mv r }
 {
     let score = neg16(r.score);
-    let s = r.state;
-    if loc.alpha < score {
-        let l = Loc {
-            alpha: score,
-            best: score,
-            mv: mv,
-            state: s,
-        };
-        return Turn {
-            done: here.beta <= score,
-            loc: l,
-        };
+    let state = r.state;
+    if score <= loc.alpha {
+        return ControlFlow::Continue(Loc { state, ..loc });
     }
-    unfinished(Loc {
-        alpha: loc.alpha,
-        best: loc.best,
-        mv: loc.mv,
-        state: s,
-    })
+    let l = Loc {
+        alpha: score,
+        best: score,
+        mv,
+        state,
+    };
+    if here.beta <= score {
+        ControlFlow::Break(l)
+    } else {
+        ControlFlow::Continue(l)
+    }
 }

@@ -14,7 +14,7 @@ use Rattle.tree.proofs.Every.{two}
 use Rattle.state.specs.declared.Settings.{Settings}
 use Rattle.state.specs.declared.State.{State}
 use Rattle.state.specs.declared.Consulted.{Consulted}
-use Rattle.moves.specs.declared.Place.{Place}
+use Rattle.std.specs.declared.option.Option.{Option}
 use Rattle.state.specs.Accepted.{AcceptedBy}
 use Rattle.moves.specs.Kid.{Kid}
 use Rattle.moves.specs.Order.{child_of}
@@ -139,7 +139,7 @@ unfolding hint_place
 hint_among t h l = place_among t (first_of t h.node) (count_of t h.node) l.mv
 
 -- the i-th child in the order of the walk
-pub kid_at : (set : Settings) (t : List ℕ) → AcceptedBy set t → (h : Here) (l : Loc) (p : Place) → p ≡ hint_place t h l → h.node < nodes_of t
+pub kid_at : (set : Settings) (t : List ℕ) → AcceptedBy set t → (h : Here) (l : Loc) (p : Option ℕ) → p ≡ hint_place t h l → h.node < nodes_of t
     → (i : ℕ) → i < count_of t h.node → Kid t h.node (child_of t h.node p i)
 kid_at set t ok h l p e r i lt = kid set t ok h.node i p r (subst (Among (count_of t h.node)) (sym e) (hint_among t h l)) lt
 

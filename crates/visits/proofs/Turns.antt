@@ -10,7 +10,7 @@ use borrow.Author.Tests.{eq-eqb, ne_eqb}
 use Rattle.record.specs.Node.{move_of}
 use Rattle.state.specs.declared.Settings.{Settings}
 use Rattle.state.specs.declared.Out.{Out}
-use Rattle.moves.specs.declared.Place.{Place}
+use Rattle.std.specs.declared.option.Option.{Option}
 use Rattle.moves.specs.Order.{child_of}
 use Rattle.carry.specs.declared.Here.{Here}
 use Rattle.carry.specs.declared.Loc.{Loc}
@@ -70,7 +70,7 @@ module _ (v : Visit) (t : List ℕ) (set : Settings) (h : Here) (c i : ℕ) (l�
         ap (judged h l (move_of t c)) (er ∙ ap (λ (x : ℕ). reduced_f v h l c x words hist) ed) ∙ sym (ap (λ (b : Bool). futile_if b v t set h l c i words hist) e) ∙ futile
 
 -- the rest of a walk: n moves, the i-th is next
-module _ (v : Visit) (t : List ℕ) (set : Settings) (h : Here) (p : Place) (n i : ℕ) (l : Loc) (words : List ℕ) (hist : List ℤ) where
+module _ (v : Visit) (t : List ℕ) (set : Settings) (h : Here) (p : Option ℕ) (n i : ℕ) (l : Loc) (words : List ℕ) (hist : List ℤ) where
   module _ (s : With Turn) (lt : i < n) (e : s ≡ turn_f v t set h (child_of t h.node p i) i l words hist) where
     step : walk_f v t set h p (n - i) i l words hist ≡ next_f t set h p (child_of t h.node p i) i s (walk_f v t set h p (n - (i + 1)) (i + 1))
     unfolding walk_f

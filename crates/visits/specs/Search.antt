@@ -1,12 +1,13 @@
 -- The node search: a node's visit walks its children, and each child is a visit again. `v` is the visit of a child, or of the node itself at a
 -- lower depth, one unit of fuel down; the pair of nodes left and depth is fuel enough. Assumes nothing.
 use Rattle.std.specs.Prelude.{Bool, true, false, List, ℕ, zero, suc, ◌+◌, ◌*◌, eqb, ℤ, pos}
+use Rattle.core.specs.declared.ops.ControlFlow.TheVariants.{Continue, Break}
 use Rattle.tree.specs.Blocks.{nodes_of}
 use Rattle.record.specs.Node.{count_of, move_of}
 use Rattle.state.specs.declared.Settings.{Settings}
 use Rattle.state.specs.declared.State.{State}
 use Rattle.state.specs.declared.Out.{Out}
-use Rattle.moves.specs.declared.Place.{Place}
+use Rattle.std.specs.declared.option.Option.{Option}
 use Rattle.state.specs.State.{poll_of, answer_of}
 use Rattle.moves.specs.Order.{child_of}
 use Rattle.capture_steps.specs.declared.Capture.{Capture}
@@ -14,12 +15,9 @@ use Rattle.captures.specs.Captures.{captures_f}
 use Rattle.carry.specs.declared.Args.{Args}
 use Rattle.carry.specs.declared.Here.{Here}
 use Rattle.carry.specs.declared.Loc.{Loc}
-use Rattle.carry.specs.declared.Turn.{Turn}
-use Rattle.carry.specs.declared.Entered.{Entered}
-use Rattle.carry.specs.declared.Entered.TheVariants.{Answer, Moves}
-use Rattle.carry.specs.Carry.{With, with, beside}
+use Rattle.carry.specs.Carry.{Turn, Entered, With, with, beside}
 use Rattle.enter.specs.Enter.{hint_place, extend_of, enter_of, deepens_of, inner_of, hinted_of}
-use Rattle.turn.specs.Window.{unfinished, counted_of, full_of, null_of, first_best, again_of, inside_of, judge_of}
+use Rattle.turn.specs.Window.{counted_of, full_of, null_of, first_best, again_of, inside_of, judge_of}
 use Rattle.turn.specs.Prune.{futile_of, reduction_at}
 use Rattle.leave.specs.Cutoff.{cutoff_of}
 use Rattle.leave.specs.Finish.{finish_of}
@@ -60,7 +58,7 @@ judged_first t h l c r = judged h (first_best t l c r.it) (move_of t c) r
 
 -- 000: a futile move is skipped
 unfoldable pub futile_if : Bool → Visit → List ℕ → Settings → Here → Loc → ℕ → ℕ → List ℕ → List ℤ → With Turn
-futile_if true v t set h l c i words hist = with (unfinished l) words hist
+futile_if true v t set h l c i words hist = with (Continue l) words hist
 futile_if false v t set h l c i words hist = judged h l (move_of t c) (reduced_f v h l c (reduction_at t set h c i) words hist)
 
 -- 000: "Search the first move with the full window"
@@ -73,16 +71,19 @@ abbrev pub turn_f : Visit → List ℕ → Settings → Here → ℕ → ℕ →
 turn_f v t set h c i l words hist = turn_if (eqb i 0) v t set h (counted_of l) c i words hist
 
 -- what is left of a walk after a turn: the cutoff's work where it cut
-unfoldable pub next_if : Bool → List ℕ → Settings → Here → Place → ℕ → ℕ → With Turn → (Loc → List ℕ → List ℤ → With Turn) → With Turn
-next_if true t set h p c i s go = cutoff_of t set h p c i s.it.loc s.words s.history
-next_if false t set h p c i s go = go s.it.loc s.words s.history
+abbrev pub cut_of : With Loc → With Turn
+cut_of l = with (Break l.it) l.words l.history
 
-abbrev pub next_f : List ℕ → Settings → Here → Place → ℕ → ℕ → With Turn → (Loc → List ℕ → List ℤ → With Turn) → With Turn
-next_f t set h p c i s go = next_if s.it.done t set h p c i s go
+unfoldable pub next_if : Turn → List ℕ → List ℤ → List ℕ → Settings → Here → Option ℕ → ℕ → ℕ → (Loc → List ℕ → List ℤ → With Turn) → With Turn
+next_if (Break l) words hist t set h p c i go = cut_of (cutoff_of t set h p c i l words hist)
+next_if (Continue l) words hist t set h p c i go = go l words hist
+
+abbrev pub next_f : List ℕ → Settings → Here → Option ℕ → ℕ → ℕ → With Turn → (Loc → List ℕ → List ℤ → With Turn) → With Turn
+next_f t set h p c i s go = next_if s.it s.words s.history t set h p c i go
 
 -- the rest of a walk: n moves to go, the next is the i-th
-unfoldable pub walk_f : Visit → List ℕ → Settings → Here → Place → ℕ → ℕ → Loc → List ℕ → List ℤ → With Turn
-walk_f v t set h p zero i l words hist = with (unfinished l) words hist
+unfoldable pub walk_f : Visit → List ℕ → Settings → Here → Option ℕ → ℕ → ℕ → Loc → List ℕ → List ℤ → With Turn
+walk_f v t set h p zero i l words hist = with (Continue l) words hist
 walk_f v t set h p (suc n) i l words hist =
     next_f t set h p (child_of t h.node p i) i (turn_f v t set h (child_of t h.node p i) i l words hist) (walk_f v t set h p n (i + 1))
 
@@ -105,8 +106,8 @@ abbrev pub deepen_f : Visit → List ℕ → Settings → Here → Loc → List 
 deepen_f v t set h l words hist = deepen_if (deepens_of set h l) v t set h l words hist
 
 unfoldable pub entered_f : Entered → Visit → List ℕ → Settings → List ℕ → List ℤ → With Out
-entered_f (Answer o) v t set words hist = with o words hist
-entered_f (Moves h l) v t set words hist = finish_of t set h (walk_all v t set h (deepen_f v t set h l words hist))
+entered_f (Break o) v t set words hist = with o words hist
+entered_f (Continue (h , l)) v t set words hist = finish_of t set h (walk_all v t set h (deepen_f v t set h l words hist))
 
 -- 01, Visits: "depth 0: quiescence"; `k` is the fuel of captures
 unfoldable pub depth_if : Bool → ℕ → Visit → List ℕ → Settings → State → List ℕ → List ℤ → Args → With Out

@@ -9,7 +9,7 @@ use Rattle.tree.proofs.Accepted.{count_most}
 use Rattle.tree.proofs.Blocked.{record_in}
 use Rattle.state.specs.declared.Out.{Out}
 use Rattle.state.specs.declared.State.{State}
-use Rattle.moves.specs.declared.Place.{Place}
+use Rattle.std.specs.declared.option.Option.{Option}
 use Rattle.moves.specs.Kid.{Kid}
 use Rattle.moves.specs.Order.{child_of}
 use Rattle.moves.proofs.Kids.{blocked, laid, level_low}
@@ -591,7 +591,7 @@ walk-returns-then-done t c =
     (c.turn-t.ensures k h ∙ ap (λ (x : ℕ). turn_f (visit_f k tree set) tree set here x c.loop-i.i c.loop-i.l c.loop-i.words c.loop-i.history) c.child-c.ensures)
     c.if-done.true)
     ∙ c.loop-i.invariant.1.1.1 k h
-    ∙ ap₂ (λ (x : Place) (y : ℕ). walk_f (visit_f k tree set) tree set here x y 0 c.args.loc c.args.words.now c.args.history.now)
+    ∙ ap₂ (λ (x : Option ℕ) (y : ℕ). walk_f (visit_f k tree set) tree set here x y 0 c.args.loc c.args.words.now c.args.history.now)
     c.hint_place-place.ensures c.child_count-n.ensures
 
 pub walk-loop-i-preserved : goal.walk-loop-i-preserved
@@ -628,7 +628,7 @@ walk-returns t c =
     ∙ sym (walk_over (visit_f k tree set) tree set here c.hint_place-place.result c.child_count-n.result c.loop-i.i c.loop-i.l c.loop-i.words c.loop-i.history
     c.loop-i-test.false)
     ∙ c.loop-i.invariant.1.1.1 k h
-    ∙ ap₂ (λ (x : Place) (y : ℕ). walk_f (visit_f k tree set) tree set here x y 0 c.args.loc c.args.words.now c.args.history.now)
+    ∙ ap₂ (λ (x : Option ℕ) (y : ℕ). walk_f (visit_f k tree set) tree set here x y 0 c.args.loc c.args.words.now c.args.history.now)
     c.hint_place-place.ensures c.child_count-n.ensures
 
 pub widened-full-requires-clause-side_bound : goal.widened-full-requires-clause-side_bound
