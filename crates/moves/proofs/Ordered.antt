@@ -1,39 +1,23 @@
--- The scan for the hint, one child on; and the children that the order leads to: each is a child. Assumes nothing.
+-- The scan for the hint, one child on, and the children that the order leads to: each is a child. Assumes nothing.
 use mathlib.Core.Path.{◌≡◌, ap, ◌∙◌}
 use mathlib.Core.Bool.{Bool, true, false}
 use mathlib.Core.List.{List}
 use Prim.Native.Nat.{ℕ, zero, suc, ◌+◌, ◌-◌, ◌≤◌, ◌<◌}
 use native.Mathlib.Omega.{arith}
 use lib.Dec.{eqb, leb}
-use borrow.Author.Tests.{eq-eqb, ne_eqb, le-leb, lt-leb}
+use borrow.Author.Tests.{ne_eqb}
 use Rattle.tree.specs.Pick.{pick}
 use Rattle.record.specs.Node.{move_of}
 use Rattle.moves.specs.Order.{scan, place_of, order_at, pick_place}
 use Rattle.std.specs.declared.option.Option.{Option}
 use Rattle.std.specs.declared.option.Option.TheVariants.{Some, None}
 
-module _ (t : List ℕ) (first hint count i : ℕ) where
-  pub scan_over : count ≤ i → scan t first hint i (count - i) ≡ None
-  unfolding scan
-  scan_over h = let e : count - i ≡ 0 = omega arith in ap (scan t first hint i) e
-
-  step : i < count → scan t first hint i (count - i) ≡ pick_place (eqb (move_of t (first + i)) hint) (Some i) (scan t first hint (i + 1) (count - (i + 1)))
-  unfolding scan
-  step h = let e : count - i ≡ suc (count - (i + 1)) = omega arith in ap (scan t first hint i) e
-
-  pub scan_found : i < count → move_of t (first + i) ≡ hint → scan t first hint i (count - i) ≡ Some i
-  scan_found h q = step h ∙ rw (eq-eqb (move_of t (first + i)) hint q)
-
-  pub scan_passed : i < count → (move_of t (first + i) ≡ hint → ⊥) → scan t first hint i (count - i) ≡ scan t first hint (i + 1) (count - (i + 1))
-  scan_passed h q = step h ∙ rw (ne_eqb (move_of t (first + i)) hint q)
-
-pub place_none : (t : List ℕ) (first count hint : ℕ) → hint ≡ 0 → place_of t first count hint ≡ None
-unfolding place_of
-place_none t first count hint z = rw (eq-eqb hint 0 z)
-
-pub place_scan : (t : List ℕ) (first count hint : ℕ) → (hint ≡ 0 → ⊥) → place_of t first count hint ≡ scan t first hint 0 count
-unfolding place_of
-place_scan t first count hint z = rw (ne_eqb hint 0 z)
+-- a child that does not make the hint's move is passed over
+pub scan_passed : (t : List ℕ) (first hint count i : ℕ) → i < count → (move_of t (first + i) ≡ hint → ⊥)
+    → scan t first hint i (count - i) ≡ scan t first hint (i + 1) (count - (i + 1))
+unfolding scan
+scan_passed t first hint count i h q =
+    let e : count - i ≡ suc (count - (i + 1)) = omega arith in ap (scan t first hint i) e ∙ rw (ne_eqb (move_of t (first + i)) hint q)
 
 -- a place among n children
 pub data Among (n : ℕ) : Option ℕ → Type 0 where
@@ -68,17 +52,3 @@ order_among n i (Some p) (among q) h = go (eqb i 0) (leb i p)
     go true b = q
     go false true = omega arith
     go false false = h
-
--- the order, by its tests
-module _ (p i : ℕ) where
-  pub order_first : i ≡ 0 → p ≡ order_at (Some p) i
-  unfolding order_at
-  order_first z = rw (eq-eqb i 0 z)
-
-  pub order_before : (i ≡ 0 → ⊥) → i ≤ p → i - 1 ≡ order_at (Some p) i
-  unfolding order_at
-  order_before z l = rw (ne_eqb i 0 z, le-leb i p l)
-
-  pub order_behind : (i ≡ 0 → ⊥) → p < i → i ≡ order_at (Some p) i
-  unfolding order_at
-  order_behind z l = rw (ne_eqb i 0 z, lt-leb i p l)

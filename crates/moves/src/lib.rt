@@ -8,24 +8,25 @@ ghost use Rattle.moves.specs.Order.{place_of, order_at, child_of};
 use record::node;
 
 // The place of the first child whose move equals the hint; a hint of 0 is none.
+#[tactic(auto, using(tree::proofs::Blocked::nodes_most, tree::proofs::Blocked::record_in, crate::proofs::Ordered::scan_passed), unfolding(crate::specs::Order::place_of, crate::specs::Order::scan))]
 pub fn place_of(tree: &[u8], first: usize, count: usize, hint: u16) -> Option<usize>
     requires blocked { Blocked tree.now }
     requires count_bound { first + count ≤ nodes_of tree.now }
     ensures { result ≡ place_of tree.now first count hint }
 {
-    let mut place = None;
-    if hint != 0 {
-        for i in 0..count {
-            if node::move_to(tree, first + i) == hint {
-                place = Some(i);
-                break;
-            }
+    if hint == 0 {
+        return None;
+    }
+    for i in 0..count {
+        if node::move_to(tree, first + i) == hint {
+            return Some(i);
         }
     }
-    place
+    None
 }
 
 // Which child is the i-th to be tried.
+#[tactic(auto, unfolding(crate::specs::Order::order_at))]
 pub fn order_at(place: Option<usize>, i: usize) -> usize
     ensures { result ≡ order_at place i }
 {
@@ -37,6 +38,7 @@ pub fn order_at(place: Option<usize>, i: usize) -> usize
 }
 
 // The node that the i-th move to be tried leads to.
+#[tactic(auto, using(tree::proofs::Blocked::nodes_most, tree::proofs::Blocked::record_in), unfolding(crate::specs::Order::child_of))]
 pub fn child(tree: &[u8], k: usize, place: Option<usize>, i: usize) -> usize
     requires blocked { Blocked tree.now }
     requires k_bound { k < nodes_of tree.now }

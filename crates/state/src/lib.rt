@@ -57,6 +57,7 @@ pub struct Consulted {
 
 impl State {
     // The limit poll. A stop stays.
+    #[tactic(auto, unfolding(crate::specs::State::poll_of))]
     pub fn poll(mut self, limit: u64) -> State
         ensures { result ≡ poll_of limit self }
     {
@@ -67,6 +68,7 @@ impl State {
     }
 
     // One node more.
+    #[tactic(auto, unfolding(crate::specs::State::count_node))]
     pub fn count_node(mut self) -> State
         ensures { result ≡ count_node self }
     {
@@ -82,6 +84,7 @@ impl State {
     }
 
     // A lookup, if the table switch is on; else a miss that is not counted.
+    #[tactic(auto, unfolding(crate::specs::State::seen_of))]
     pub fn look(self, words: &[u64], on: bool, hash: u64) -> Seen
         requires { 2 ≤ length words.now }
         ensures { result ≡ seen_of on words.now self hash }
@@ -100,6 +103,7 @@ impl State {
     }
 
     // A store, if the table switch is on.
+    #[tactic(auto, unfolding(crate::specs::State::keep_of))]
     pub fn keep(
         self,
         words: &mut [u64],
@@ -137,11 +141,7 @@ fn stay(hint: u16, alpha: i16, beta: i16) -> Consulted
 fn narrow(e: Entry, alpha: i16, beta: i16) -> Consulted
     ensures { result ≡ narrowed e alpha beta }
 {
-    let cut = if beta <= alpha {
-        Some(e.score)
-    } else {
-        None
-    };
+    let cut = if beta <= alpha { Some(e.score) } else { None };
     Consulted {
         cut,
         alpha,
@@ -151,6 +151,7 @@ fn narrow(e: Entry, alpha: i16, beta: i16) -> Consulted
 }
 
 // What a stored entry makes of the window, where its depth is enough.
+#[tactic(auto, unfolding(crate::specs::Consult::by_bound))]
 fn use_entry(e: Entry, alpha: i16, beta: i16) -> Consulted
     ensures { result ≡ use_of e alpha beta }
 {
@@ -161,13 +162,13 @@ fn use_entry(e: Entry, alpha: i16, beta: i16) -> Consulted
             beta,
             hint: e.mv,
         },
-        Bound::Lower => narrow(e, alpha.max(e.score), beta),
+        Bound::Lower => narrow(e, e.score.max(alpha), beta),
         Bound::Upper => narrow(e, alpha, beta.min(e.score)),
     }
 }
 
-
 // What a lookup makes of the window.
+#[tactic(auto, unfolding(crate::specs::Consult::consult_of, crate::specs::Consult::use_if))]
 pub fn consult(found: Found, usable: bool, depth: i8, alpha: i16, beta: i16) -> Consulted
     ensures { result ≡ consult_of found usable depth alpha beta }
 {
@@ -179,6 +180,7 @@ pub fn consult(found: Found, usable: bool, depth: i8, alpha: i16, beta: i16) -> 
 }
 
 // The move of an entry that was found, 0 where none was.
+#[tactic(auto, unfolding(crate::specs::Consult::hint_of))]
 pub fn hint_of(found: Found) -> u16
     ensures { result ≡ hint_of found }
 {
