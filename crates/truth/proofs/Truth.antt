@@ -13,7 +13,7 @@ use lib.Signed.{lt_z, le_z}
 use Rattle.score.specs.Wrap.{neg16, sub16}
 use Rattle.score.proofs.Order.{off}
 use Rattle.score.proofs.Range.{InZ, lt_yes, lt_not, le_yes, le_not, neg_off}
-use Rattle.core.specs.declared.ops.ControlFlow.TheVariants.{Continue, Break}
+use Rattle.std.specs.declared.ops.ControlFlow.TheVariants.{Continue, Break}
 use Rattle.record.specs.Node.{first_of, count_of, move_of, in_check, is_draw}
 use Rattle.state.specs.declared.Settings.{Settings}
 use Rattle.state.specs.declared.State.{State}

@@ -11,7 +11,7 @@ use lib.Signed.{lt_z, le_z}
 use Rattle.score.specs.Wrap.{neg16}
 use Rattle.score.proofs.Order.{off}
 use Rattle.score.proofs.Range.{InZ, lt_yes, lt_not, le_yes, le_not}
-use Rattle.core.specs.declared.ops.ControlFlow.TheVariants.{Continue, Break}
+use Rattle.std.specs.declared.ops.ControlFlow.TheVariants.{Continue, Break}
 use Rattle.record.specs.Node.{first_of, count_of, eval_of, is_quiet}
 use Rattle.tree.specs.Blocks.{nodes_of}
 use Rattle.state.specs.declared.Settings.{Settings}
