@@ -1,8 +1,8 @@
 -- The steps of a capture visit that visit no child, in the order of 000. Assumes nothing.
 use Rattle.std.specs.Prelude.{Bool, true, false, ◌&&◌, List, ℕ, ◌+◌, ◌<◌, leb, eqb, ℤ, pos, neg_ℤ}
 use Rattle.std.specs.Int.Signed.{lt_z, le_z}
-use Rattle.core.specs.declared.ops.ControlFlow.{ControlFlow}
-use Rattle.core.specs.declared.ops.ControlFlow.TheVariants.{Continue, Break}
+use Rattle.std.specs.declared.ops.ControlFlow.{ControlFlow}
+use Rattle.std.specs.declared.ops.ControlFlow.TheVariants.{Continue, Break}
 use Rattle.score.specs.Wrap.{neg16, sub16}
 use Rattle.transposition.specs.declared.Bound.{Bound}
 use Rattle.transposition.specs.declared.Bound.TheVariants.{Exact, Lower, Upper}
@@ -71,7 +71,7 @@ loc_of w s = record { alpha = w.alpha; mv = w.hint; state = s }
 
 unfoldable pub cut_if : Option ℤ → Consulted → State → Capture → ℤ → Entered
 cut_if (Some x) w s a old = Break (answer_of x s)
-cut_if None w s a old = Continue (here_of a old w , loc_of w s)
+cut_if None w s a old = Continue (here_of a old w, loc_of w s)
 
 abbrev pub consulted : Seen → Capture → ℤ → Consulted
 consulted seen a alpha = consult_of seen.found true (depth_of a.below) alpha a.beta

@@ -56,6 +56,7 @@ fn depth_of(below: u8) -> i8
 }
 
 // Delta pruning: the evaluation is over 1000 below alpha.
+#[tactic(auto, unfolding(crate::specs::Step::delta_prunes))]
 fn delta_prunes(set: Settings, eval: i16, a: Capture) -> bool
     ensures { result ≡ delta_prunes set eval a }
 {
@@ -63,6 +64,7 @@ fn delta_prunes(set: Settings, eval: i16, a: Capture) -> bool
 }
 
 // The ply's end, delta pruning, standing pat: the answer, or the alpha to go on with.
+#[tactic(auto, unfolding(crate::specs::Step::ply_if, crate::specs::Step::delta_if, crate::specs::Step::pat_if, crate::specs::Step::beta_if))]
 fn stand_pat(set: Settings, eval: i16, a: Capture) -> ControlFlow<i16, i16>
     ensures { result ≡ stand_pat set eval a }
 {
@@ -72,13 +74,17 @@ fn stand_pat(set: Settings, eval: i16, a: Capture) -> ControlFlow<i16, i16>
     if delta_prunes(set, eval, a) {
         return ControlFlow::Break(a.alpha);
     }
-    if a.alpha < eval && a.beta <= eval {
-        return ControlFlow::Break(eval);
+    if a.alpha < eval {
+        if a.beta <= eval {
+            return ControlFlow::Break(eval);
+        }
+        return ControlFlow::Continue(eval);
     }
-    ControlFlow::Continue(a.alpha.max(eval))
+    ControlFlow::Continue(a.alpha)
 }
 
 // The table, after standing pat left an alpha.
+#[tactic(auto, using(tree::proofs::Blocked::record_in), unfolding(crate::specs::Step::cut_if))]
 fn probe(tree: &[u8], words: &[u64], set: Settings, st: State, a: Capture, old: i16) -> Entered
     requires blocked { Blocked tree.now }
     requires node_bound { a.node < nodes_of tree.now }
@@ -107,6 +113,7 @@ fn probe(tree: &[u8], words: &[u64], set: Settings, st: State, a: Capture, old: 
 }
 
 // Poll, the ply's end, delta pruning, standing pat, the table.
+#[tactic(auto, using(tree::proofs::Blocked::record_in), unfolding(crate::specs::Step::enter_of, crate::specs::Step::stop_if, crate::specs::Step::patted))]
 pub fn enter(tree: &[u8], words: &[u64], set: Settings, st: State, a: Capture) -> Entered
     requires blocked { Blocked tree.now }
     requires node_bound { a.node < nodes_of tree.now }
@@ -125,32 +132,34 @@ pub fn enter(tree: &[u8], words: &[u64], set: Settings, st: State, a: Capture) -
 }
 
 // A place, if the child there is noisy.
+#[tactic(auto, using(tree::proofs::Blocked::record_in, tree::proofs::Blocked::nodes_most), unfolding(crate::specs::Step::noisy_at, crate::specs::Step::noisy_if))]
 fn noisy(tree: &[u8], first: usize, place: Option<usize>) -> Option<usize>
     requires blocked { Blocked tree.now }
     requires place_in { PlaceIn (nodes_of tree.now) first place }
     ensures { result ≡ noisy_at tree.now first place }
 {
-    place.filter(|p| !node::is_quiet(tree, first + *p))
+    match place {
+        Some(p) if !node::is_quiet(tree, first + p) => place,
+        _ => None,
+    }
 }
 
 // The hint's place, if it is a noisy child.
+#[tactic(auto, using(tree::proofs::Blocked::record_in, moves::proofs::Kids::kids_within), unfolding(crate::specs::Step::noisy_place))]
 pub fn noisy_place(tree: &[u8], here: Here, loc: Loc) -> Option<usize>
     requires laid { Laid tree.now }
     requires node_bound { here.node < nodes_of tree.now }
     ensures { result ≡ noisy_place tree.now here loc }
 {
-    let k = here.node;
-    let first = node::first_child(tree, k);
-    let count = node::child_count(tree, k);
-    let place = moves::place_of(tree, first, count, loc.mv);
-    noisy(tree, first, place)
+    let first = node::first_child(tree, here.node);
+    let count = node::child_count(tree, here.node);
+    noisy(tree, first, moves::place_of(tree, first, count, loc.mv))
 }
 
 pub fn counted(loc: Loc) -> State
     ensures { result ≡ count_node loc.state }
 {
-    let s = loc.state;
-    s.count_node()
+    loc.state.count_node()
 }
 
 // A child's visit: the window negated, one deeper.
@@ -169,6 +178,7 @@ pub fn down(here: Here, loc: Loc, c: usize) -> Capture
 }
 
 // What a child's answer makes of the walk: nothing, a higher alpha, or a cutoff, which is stored as Lower.
+#[tactic(auto, using(tree::proofs::Blocked::record_in), unfolding(crate::specs::Step::judge_of, crate::specs::Step::raise_if, crate::specs::Step::score_if))]
 pub fn judge(
     tree: &[u8],
     words: &mut [u64],
@@ -208,6 +218,7 @@ pub fn judge(
 }
 
 // Exact if alpha exceeds the alpha left by standing pat, else Upper.
+#[tactic(auto, unfolding(crate::specs::Step::bound_if))]
 fn bound_of(here: Here, loc: Loc) -> Bound
     ensures { result ≡ bound_of here loc }
 {
@@ -219,32 +230,27 @@ fn bound_of(here: Here, loc: Loc) -> Bound
 }
 
 // Alpha is stored, where there is a move to store with it.
+#[tactic(auto, using(tree::proofs::Blocked::record_in), unfolding(crate::specs::Step::store_if))]
 fn store_alpha(tree: &[u8], words: &mut [u64], set: Settings, here: Here, loc: Loc) -> Out
     requires blocked { Blocked tree.now }
     requires node_bound { here.node < nodes_of tree.now }
     requires in_bounds { (2 ≤ length words.old) × (here.below ≤ 127) }
     ensures { over result words.new ≡ stored_of tree.now set here loc words.old }
 {
-    let s = loc.state;
     if loc.mv == 0 {
-        return s.answer(loc.alpha);
+        return loc.state.answer(loc.alpha);
     }
-    let k = here.node;
-    let hash = node::hash(tree, k);
+    let hash = node::hash(tree, here.node);
+    let depth = depth_of(here.below);
     let bound = bound_of(here, loc);
-    let after = s.keep(
-        words,
-        set.table,
-        hash,
-        depth_of(here.below),
-        loc.alpha,
-        loc.mv,
-        bound,
-    );
-    after.answer(loc.alpha)
+    let state = loc
+        .state
+        .keep(words, set.table, hash, depth, loc.alpha, loc.mv, bound);
+    state.answer(loc.alpha)
 }
 
 // The end of a visit: a cutoff's score was stored; else alpha is.
+#[tactic(auto, unfolding(crate::specs::Step::finish_if))]
 pub fn finish(tree: &[u8], words: &mut [u64], set: Settings, here: Here, w: Turn) -> Out
     requires blocked { Blocked tree.now }
     requires node_bound { here.node < nodes_of tree.now }
