@@ -2,11 +2,15 @@
 use Rattle.std.proofs.Common.{ℕ, ◌+◌, ◌≤◌, ◌<◌, List, Option, Some, None, arith}
 use Rattle.tree.specs.Blocks.{nodes_of}
 use Rattle.tree.specs.Layout.{Laid}
+use Rattle.tree.proofs.Blocked.{nodes_most, record_in}
 use Rattle.record.specs.Node.{first_of, count_of}
 use Rattle.moves.specs.Order.{place_of}
 use Rattle.moves.proofs.Kids.{kids_within}
 use Rattle.moves.proofs.Ordered.{Among, among, place_among}
 use Rattle.capture_steps.specs.Step.{PlaceIn}
+
+-- the record of a place's child lies in the tree
+pub ruleset noisy_rules = (nodes_most, record_in)
 
 place_in : (n first count : ℕ) (p : Option ℕ) → Among count p → first + count ≤ n → PlaceIn n first p
 place_in n first count None a h = tt

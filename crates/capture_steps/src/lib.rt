@@ -5,7 +5,8 @@ ghost use Rattle.std.specs.Prelude.{◌≡◌, ◌+◌, ◌≤◌, ◌<◌, ◌^
 ghost use Rattle.tree.specs.Blocks.{Blocked, nodes_of};
 ghost use Rattle.tree.specs.Layout.{Laid};
 ghost use Rattle.state.specs.State.{over, count_node};
-ghost use Rattle.capture_steps.specs.Step.{depth_of, delta_prunes, stand_pat, probe_of, enter_of, noisy_place, noisy_at, PlaceIn, down_of, judge_of, bound_of, stored_of, finish_if};
+ghost use Rattle.capture_steps.specs.Step.{depth_of, delta_prunes, stand_pat, probe_of, enter_of};
+ghost use Rattle.capture_steps.specs.Step.{noisy_place, noisy_at, PlaceIn, down_of, judge_of, bound_of, stored_of, finish_if};
 
 use record::node;
 use score::{neg16, sub16};
@@ -132,7 +133,7 @@ pub fn enter(tree: &[u8], words: &[u64], set: Settings, st: State, a: Capture) -
 }
 
 // A place, if the child there is noisy.
-#[tactic(auto, using(tree::proofs::Blocked::record_in, tree::proofs::Blocked::nodes_most), unfolding(crate::specs::Step::noisy_at, crate::specs::Step::noisy_if))]
+#[tactic(auto, using(crate::proofs::Steps::noisy_rules), unfolding(crate::specs::Step::noisy_at, crate::specs::Step::noisy_if))]
 fn noisy(tree: &[u8], first: usize, place: Option<usize>) -> Option<usize>
     requires blocked { Blocked tree.now }
     requires place_in { PlaceIn (nodes_of tree.now) first place }

@@ -18,11 +18,9 @@ use Rattle.moves.proofs.Ordered.{Among}
 use Rattle.capture_steps.specs.declared.Capture.{Capture}
 use Rattle.capture_steps.specs.declared.Here.{Here}
 use Rattle.capture_steps.specs.declared.Loc.{Loc}
-use Rattle.capture_steps.specs.declared.Turn.{Turn}
-use Rattle.capture_steps.specs.declared.Entered.{Entered}
-use Rattle.capture_steps.specs.declared.Entered.TheVariants.{Answer, Moves}
-use Rattle.capture_steps.specs.Step.{enter_of, noisy_place, down_of, finish_of}
-use Rattle.captures.specs.Captures.{Visit, judged, turn_if, turn_f, next_if, next_f, walk_f, entered_f, captures_f}
+use Rattle.std.specs.declared.ops.ControlFlow.TheVariants.{Continue, Break}
+use Rattle.capture_steps.specs.Step.{Turn, Entered, enter_of, noisy_place, down_of, finish_of}
+use Rattle.captures.specs.Captures.{Visit, judged, turn_if, next_if, next_f, walk_f, entered_f, captures_f}
 use Rattle.captures.proofs.Walks.{noisy_among, enter_stays}
 
 -- of every accepted tree, from every state and table, at every node, window, depth and ply: the same answer and the same words
@@ -33,10 +31,10 @@ CapturesFuel =
     → captures_f k set t s words a ≡ captures_f m set t s words a
 
 -- a walk's rest reads only what is left of it
-next_same : (b : Bool) (s : Over Turn) (f g : Loc → List ℕ → Over Turn) → ((l : Loc) (words : List ℕ) → f l words ≡ g l words) → next_if b s f ≡ next_if b s g
+next_same : (w : Turn) (words : List ℕ) (f g : Loc → List ℕ → Over Turn) → ((l : Loc) (words : List ℕ) → f l words ≡ g l words) → next_if w words f ≡ next_if w words g
 unfolding next_if
-next_same true s f g e = refl
-next_same false s f g e = e s.it.loc s.words
+next_same (Break l) words f g e = refl
+next_same (Continue l) words f g e = e l words
 
 module _ (set : Settings) (t : List ℕ) (ok : AcceptedBy set t) where
   -- two visits that answer alike at the nodes of the tree above a node
@@ -60,14 +58,14 @@ module _ (set : Settings) (t : List ℕ) (ok : AcceptedBy set t) where
         let c = child_of t h.node p i in
         let turned = turn-same (is_quiet t c) l c words (kid set t ok h.node i p lt a (omega arith)) in
         ap (λ (s : Over Turn). next_f s (walk_f v set t h p n (i + 1))) turned
-        ∙ next_same _ (turn_f w set t h l c words) _ _ (walk_same p lt a n (i + 1) (omega arith))
+        ∙ next_same _ _ _ _ (walk_same p lt a n (i + 1) (omega arith))
 
   entered-same
       : (x : Entered) (v w : Visit) (s : State) (words : List ℕ) (a : Capture) → x ≡ enter_of set t words s a → a.node < nodes_of t → Alike a.node v w
       → entered_f x v set t words ≡ entered_f x w set t words
   unfolding entered_f
-  entered-same (Answer o) v w s words a ex lt e = refl
-  entered-same (Moves h l) v w s words a ex lt e =
+  entered-same (Break o) v w s words a ex lt e = refl
+  entered-same (Continue (h, l)) v w s words a ex lt e =
       let en = (enter_stays set t words s a h l ex).0 in
       ap (finish_of t set h)
       (walk_same v w h (subst (λ (n : ℕ). Alike n v w) (sym en) e) (noisy_place t h l) (omega (arith, en)) (noisy_among t h l) (count_of t h.node) 0 (omega arith) l words)

@@ -23,16 +23,14 @@ use Rattle.moves.proofs.Ordered.{Among, among, nowhere, place_among}
 use Rattle.capture_steps.specs.declared.Capture.{Capture}
 use Rattle.capture_steps.specs.declared.Here.{Here}
 use Rattle.capture_steps.specs.declared.Loc.{Loc}
-use Rattle.capture_steps.specs.declared.Turn.{Turn}
-use Rattle.capture_steps.specs.declared.Entered.{Entered}
-use Rattle.capture_steps.specs.declared.Entered.TheVariants.{Answer, Moves}
+use Rattle.std.specs.declared.ops.ControlFlow.TheVariants.{Continue, Break}
 use Rattle.captures.specs.Reach.{Reach}
-use Rattle.capture_steps.specs.Step.{stand_pat, cut_if, consulted, patted_if, stop_if, enter_of, noisy_if, noisy_at, noisy_place, unfinished, down_of, finish_of}
+use Rattle.capture_steps.specs.Step.{Turn, Entered, Pat, stand_pat, cut_if, consulted, patted, stop_if, enter_of, noisy_if, noisy_at, noisy_place, down_of, finish_of}
 use Rattle.captures.specs.Captures.{Visit, judged, turn_if, turn_f, next_if, next_f, walk_f, walk_all, entered_f, captures_f}
 
 -- one child
 module _ (v : Visit) (set : Settings) (t : List ℕ) (h : Here) (l : Loc) (c : ℕ) (words : List ℕ) where
-  pub turn_quiet : is_quiet t c ≡ true → over (unfinished l) words ≡ turn_f v set t h l c words
+  pub turn_quiet : is_quiet t c ≡ true → over (Continue l) words ≡ turn_f v set t h l c words
   unfolding turn_if
   turn_quiet e = sym (ap (λ (q : Bool). turn_if q v set t h l c words) e)
 
@@ -49,16 +47,17 @@ module _ (v : Visit) (set : Settings) (t : List ℕ) (h : Here) (p : Option ℕ)
       let m : n - i ≡ suc (n - (i + 1)) = omega arith in
       ap (λ (m : ℕ). walk_f v set t h p m i l words) m ∙ sym (ap (λ (x : Over Turn). next_f x (walk_f v set t h p (n - (i + 1)) (i + 1))) e)
 
-  pub walk_next : (s : Over Turn) → i < n → s ≡ turn_f v set t h l (child_of t h.node p i) words → s.it.done ≡ false
-      → walk_f v set t h p (n - i) i l words ≡ walk_f v set t h p (n - (i + 1)) (i + 1) s.it.loc s.words
+  pub walk_next : (s : Over Turn) (m : Loc) → i < n → s ≡ turn_f v set t h l (child_of t h.node p i) words → s.it ≡ Continue m
+      → walk_f v set t h p (n - i) i l words ≡ walk_f v set t h p (n - (i + 1)) (i + 1) m s.words
   unfolding next_if
-  walk_next s lt e d = step s lt e ∙ ap (λ (q : Bool). next_if q s (walk_f v set t h p (n - (i + 1)) (i + 1))) d
+  walk_next s m lt e d = step s lt e ∙ ap (λ (q : Turn). next_if q s.words (walk_f v set t h p (n - (i + 1)) (i + 1))) d
 
-  pub walk_cut : (s : Over Turn) → i < n → s ≡ turn_f v set t h l (child_of t h.node p i) words → s.it.done ≡ true → walk_f v set t h p (n - i) i l words ≡ s
+  pub walk_cut : (s : Over Turn) (m : Loc) → i < n → s ≡ turn_f v set t h l (child_of t h.node p i) words → s.it ≡ Break m
+      → walk_f v set t h p (n - i) i l words ≡ over (Break m) s.words
   unfolding next_if
-  walk_cut s lt e d = step s lt e ∙ ap (λ (q : Bool). next_if q s (walk_f v set t h p (n - (i + 1)) (i + 1))) d
+  walk_cut s m lt e d = step s lt e ∙ ap (λ (q : Turn). next_if q s.words (walk_f v set t h p (n - (i + 1)) (i + 1))) d
 
-  pub walk_over : n ≤ i → walk_f v set t h p (n - i) i l words ≡ over (unfinished l) words
+  pub walk_over : n ≤ i → walk_f v set t h p (n - i) i l words ≡ over (Continue l) words
   unfolding walk_f
   walk_over le = let e : n - i ≡ 0 = omega arith in ap (λ (m : ℕ). walk_f v set t h p m i l words) e
 
@@ -73,11 +72,11 @@ module _ (k n : ℕ) (set : Settings) (t : List ℕ) (s : State) (words : List �
   entered : entered_f e (captures_f (k - 1) set t) set t words ≡ captures_f k set t s words a
   entered = ap (λ (x : Entered). entered_f x (captures_f (k - 1) set t) set t words) ee ∙ sym (visit_step k n set t s words a more)
 
-  pub visit_answer : (o : Out) → e ≡ Answer o → over o words ≡ captures_f k set t s words a
+  pub visit_answer : (o : Out) → e ≡ Break o → over o words ≡ captures_f k set t s words a
   unfolding entered_f
   visit_answer o q = sym (ap (λ (x : Entered). entered_f x (captures_f (k - 1) set t) set t words) q) ∙ entered
 
-  pub visit_moves : (h : Here) (l : Loc) → e ≡ Moves h l → (w : Over Turn) → w ≡ walk_all (captures_f (k - 1) set t) set t h l words
+  pub visit_moves : (h : Here) (l : Loc) → e ≡ Continue (h, l) → (w : Over Turn) → w ≡ walk_all (captures_f (k - 1) set t) set t h l words
       → finish_of t set h w ≡ captures_f k set t s words a
   unfolding entered_f
   visit_moves h l q w ew = ap (finish_of t set h) ew ∙ sym (ap (λ (x : Entered). entered_f x (captures_f (k - 1) set t) set t words) q) ∙ entered
@@ -108,37 +107,39 @@ abbrev pub Stays : Capture → Here → Type 0
 Stays a h = (h.node ≡ a.node) × ((h.below ≡ a.below) × (h.ply ≡ a.ply))
 
 abbrev Leaves : Capture → Entered → Type 0
-Leaves a (Answer o) = Unit {0}
-Leaves a (Moves h l) = Stays a h
+Leaves a (Break o) = Unit {0}
+Leaves a (Continue (h, l)) = Stays a h
 
-leaves_cut : (b : Bool) (w : Consulted) (s : State) (a : Capture) (old : ℤ) → Leaves a (cut_if b w s a old)
+leaves_cut : (cut : Option ℤ) (w : Consulted) (s : State) (a : Capture) (old : ℤ) → Leaves a (cut_if cut w s a old)
 unfolding cut_if
-leaves_cut true w s a old = tt
-leaves_cut false w s a old = (refl, (refl, refl))
+leaves_cut (Some x) w s a old = tt
+leaves_cut None w s a old = (refl, (refl, refl))
 
-leaves_pat : (b : Bool) (alpha : ℤ) (set : Settings) (t words : List ℕ) (s : State) (a : Capture) → Leaves a (patted_if b alpha set t words s a)
-unfolding patted_if
-leaves_pat true alpha set t words s a = tt
-leaves_pat false alpha set t words s a =
+leaves_pat : (p : Pat) (set : Settings) (t words : List ℕ) (s : State) (a : Capture) → Leaves a (patted p set t words s a)
+unfolding patted
+leaves_pat (Break x) set t words s a = tt
+leaves_pat (Continue alpha) set t words s a =
     let seen = seen_of set.table words s (hash_of t a.node) in
     leaves_cut (consulted seen a alpha).cut (consulted seen a alpha) seen.state a alpha
 
 leaves_stop : (b : Bool) (set : Settings) (t words : List ℕ) (s : State) (a : Capture) → Leaves a (stop_if b set t words s a)
 unfolding stop_if
 leaves_stop true set t words s a = tt
-leaves_stop false set t words s a =
-    let p = stand_pat set (eval_of t a.node) a in
-    leaves_pat p.done p.alpha set t words s a
+leaves_stop false set t words s a = leaves_pat (stand_pat set (eval_of t a.node) a) set t words s a
 
-pub enter_stays : (set : Settings) (t words : List ℕ) (s : State) (a : Capture) (h : Here) (l : Loc) → Moves h l ≡ enter_of set t words s a → Stays a h
+pub enter_stays : (set : Settings) (t words : List ℕ) (s : State) (a : Capture) (h : Here) (l : Loc) → Continue (h, l) ≡ enter_of set t words s a → Stays a h
 unfolding enter_of
 enter_stays set t words s a h l e =
     let p = poll_of set.limit s in
     subst (Leaves a) (sym e) (leaves_stop p.stop set t words p a)
 
 -- what is asked of a visit holds of its walk
-pub reach_walk : (t : List ℕ) (a : Capture) (h : Here) → Stays a h → Reach t a.node a.below a.ply → Reach t h.node h.below h.ply
+reach_walk : (t : List ℕ) (a : Capture) (h : Here) → Stays a h → Reach t a.node a.below a.ply → Reach t h.node h.below h.ply
 reach_walk t a h (n, (b, p)) r = rw (n, b, p) r
+
+pub walk_reach : (set : Settings) (t words : List ℕ) (s : State) (a : Capture) (h : Here) (l : Loc) → Continue (h, l) ≡ enter_of set t words s a
+    → Reach t a.node a.below a.ply → Reach t h.node h.below h.ply
+walk_reach set t words s a h l e = reach_walk t a h (enter_stays set t words s a h l e)
 
 -- a child is where a capture visit can be
 pub kid_reach : (t : List ℕ) (k c below ply : ℕ) → Kid t k c → Reach t k below ply → Reach t c (below + 1) (ply + 1)

@@ -1,8 +1,7 @@
 -- Captures: a capture visit walks its noisy children, and each child is a capture visit again. `v` is the child's visit, one unit of fuel down;
 -- the nodes left are fuel enough. Assumes nothing.
 use Rattle.std.specs.Prelude.{Bool, true, false, List, ℕ, zero, suc, ◌+◌, pos}
-use Rattle.core.specs.declared.ops.ControlFlow.{ControlFlow}
-use Rattle.core.specs.declared.ops.ControlFlow.TheVariants.{Continue, Break}
+use Rattle.std.specs.declared.ops.ControlFlow.TheVariants.{Continue, Break}
 use Rattle.record.specs.Node.{count_of, is_quiet}
 use Rattle.state.specs.declared.Settings.{Settings}
 use Rattle.state.specs.declared.State.{State}
@@ -48,7 +47,7 @@ walk_all v set t h l words = walk_f v set t h (noisy_place t h l) (count_of t h.
 
 unfoldable pub entered_f : Entered → Visit → Settings → List ℕ → List ℕ → Over Out
 entered_f (Break o) v set t words = over o words
-entered_f (Continue (h , l)) v set t words = finish_of t set h (walk_all v set t h l words)
+entered_f (Continue (h, l)) v set t words = finish_of t set h (walk_all v set t h l words)
 
 unfoldable pub captures_f : ℕ → Settings → List ℕ → Visit
 captures_f zero set t s words a = over (answer_of (pos 0) s) words

@@ -7,6 +7,7 @@ use native.Mathlib.Omega.{arith}
 use lib.Dec.{eqb, leb}
 use borrow.Author.Tests.{ne_eqb}
 use Rattle.tree.specs.Pick.{pick}
+use Rattle.tree.proofs.Blocked.{nodes_most, record_in}
 use Rattle.record.specs.Node.{move_of}
 use Rattle.moves.specs.Order.{scan, place_of, order_at, pick_place}
 use Rattle.std.specs.declared.option.Option.{Option}
@@ -18,6 +19,9 @@ pub scan_passed : (t : List ℕ) (first hint count i : ℕ) → i < count → (m
 unfolding scan
 scan_passed t first hint count i h q =
     let e : count - i ≡ suc (count - (i + 1)) = omega arith in ap (scan t first hint i) e ∙ rw (ne_eqb (move_of t (first + i)) hint q)
+
+-- what the scan's proof cites: also that a node's record lies in the tree
+pub ruleset scan_rules = (nodes_most, record_in, scan_passed)
 
 -- a place among n children
 pub data Among (n : ℕ) : Option ℕ → Type 0 where

@@ -8,7 +8,7 @@ ghost use Rattle.moves.specs.Order.{place_of, order_at, child_of};
 use record::node;
 
 // The place of the first child whose move equals the hint; a hint of 0 is none.
-#[tactic(auto, using(tree::proofs::Blocked::nodes_most, tree::proofs::Blocked::record_in, crate::proofs::Ordered::scan_passed), unfolding(crate::specs::Order::place_of, crate::specs::Order::scan))]
+#[tactic(auto, using(crate::proofs::Ordered::scan_rules), unfolding(crate::specs::Order::place_of, crate::specs::Order::scan))]
 pub fn place_of(tree: &[u8], first: usize, count: usize, hint: u16) -> Option<usize>
     requires blocked { Blocked tree.now }
     requires count_bound { first + count ≤ nodes_of tree.now }
