@@ -1,6 +1,6 @@
 -- What a visit carries beside its value. Assumes nothing.
 use Rattle.std.specs.Prelude.{List, ℕ, ℤ}
-use Rattle.core.specs.declared.ops.ControlFlow.{ControlFlow}
+use Rattle.std.specs.declared.ops.ControlFlow.{ControlFlow}
 use Rattle.state.specs.declared.Out.{Out}
 use Rattle.state.specs.State.{Over}
 use Rattle.carry.specs.declared.Here.{Here}

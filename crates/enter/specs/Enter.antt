@@ -2,9 +2,10 @@
 use Rattle.std.specs.Prelude.{Bool, true, false, not, ◌&&◌, List, ℕ, ◌+◌, ◌-◌, ◌*◌, ltb, eqb, ℤ, pos}
 use Rattle.std.specs.Int.Signed.{le_z}
 use Rattle.score.specs.Wrap.{add16, sub16, eq_z}
-use Rattle.core.specs.declared.ops.ControlFlow.TheVariants.{Continue, Break}
+use Rattle.std.specs.declared.ops.ControlFlow.TheVariants.{Continue, Break}
 use Rattle.record.specs.Node.{first_of, count_of, eval_of, hash_of, in_check, is_draw, is_pawn_ending, is_improving}
 use Rattle.std.specs.declared.option.Option.{Option}
+use Rattle.std.specs.declared.option.Option.TheVariants.{Some, None}
 use Rattle.moves.specs.Order.{place_of}
 use Rattle.state.specs.declared.Settings.{Settings}
 use Rattle.state.specs.declared.State.{State}
@@ -65,7 +66,7 @@ loc_of a w s = record { alpha = w.alpha; best = a.alpha; mv = w.hint; state = s 
 
 unfoldable pub reverse_if : Bool → Here → Loc → Entered
 reverse_if true h l = Break (answer_of h.eval l.state)
-reverse_if false h l = Continue (h , l)
+reverse_if false h l = Continue (h, l)
 
 unfoldable pub cut_if : Option ℤ → Settings → List ℕ → Args → Bool → Consulted → State → Entered
 cut_if (Some x) set t a full w s = Break (answer_of x s)

@@ -13,6 +13,7 @@ use state::{Out, Seen, Settings, State};
 use std::ops::ControlFlow;
 
 // In check, depth + 1.
+#[tactic(auto, using(tree::proofs::Blocked::record_in), unfolding(crate::specs::Enter::extended, crate::specs::Enter::extend_of))]
 pub fn extend(tree: &[u8], a: Args) -> Args
     requires blocked { Blocked tree.now }
     requires node_bound { a.node < nodes_of tree.now }
@@ -29,6 +30,7 @@ pub fn extend(tree: &[u8], a: Args) -> Args
 }
 
 // A full window is one whose alpha is not beta - 1.
+#[tactic(auto, using(crate::proofs::Same::same_is), unfolding(crate::specs::Enter::full_window))]
 fn full_window(a: Args) -> bool
     ensures { result ≡ full_window a.alpha a.beta }
 {
@@ -36,6 +38,7 @@ fn full_window(a: Args) -> bool
 }
 
 // What the evaluation must reach: beta and 75 a depth, less 20 if improving.
+#[tactic(auto, using(tree::proofs::Blocked::record_in), unfolding(crate::specs::Enter::margin_if))]
 fn reverse_margin(tree: &[u8], here: Here) -> i16
     requires blocked { Blocked tree.now }
     requires node_bound { here.node < nodes_of tree.now }
@@ -51,6 +54,7 @@ fn reverse_margin(tree: &[u8], here: Here) -> i16
 }
 
 // Whether the evaluation is so far above beta that the moves need no look.
+#[tactic(auto, using(tree::proofs::Blocked::record_in), unfolding(crate::specs::Enter::reverse_futile))]
 fn reverse_futile(tree: &[u8], set: Settings, here: Here) -> bool
     requires blocked { Blocked tree.now }
     requires node_bound { here.node < nodes_of tree.now }
@@ -65,6 +69,7 @@ fn reverse_futile(tree: &[u8], set: Settings, here: Here) -> bool
 }
 
 // The table, then reverse futility.
+#[tactic(auto, using(tree::proofs::Blocked::record_in), unfolding(crate::specs::Enter::probe_of, crate::specs::Enter::cut_if, crate::specs::Enter::reverse_if))]
 fn probe(tree: &[u8], words: &[u64], set: Settings, st: State, a: Args) -> Entered
     requires blocked { Blocked tree.now }
     requires node_bound { a.node < nodes_of tree.now }
@@ -101,6 +106,7 @@ fn probe(tree: &[u8], words: &[u64], set: Settings, st: State, a: Args) -> Enter
 }
 
 // Draw, table, reverse futility.
+#[tactic(auto, using(tree::proofs::Blocked::record_in), unfolding(crate::specs::Enter::enter_of, crate::specs::Enter::draw_if))]
 pub fn enter(tree: &[u8], words: &[u64], set: Settings, st: State, a: Args) -> Entered
     requires blocked { Blocked tree.now }
     requires node_bound { a.node < nodes_of tree.now }
@@ -115,6 +121,7 @@ pub fn enter(tree: &[u8], words: &[u64], set: Settings, st: State, a: Args) -> E
 }
 
 // Whether inner deepening is due: a full window, no hint, depth over 2.
+#[tactic(auto, unfolding(crate::specs::Enter::deepens_of))]
 pub fn deepens(set: Settings, here: Here, loc: Loc) -> bool
     ensures { result ≡ deepens_of set here loc }
 {
@@ -137,6 +144,7 @@ pub fn inner(here: Here, loc: Loc) -> Args
 }
 
 // The hint that inner deepening left in the table.
+#[tactic(auto, using(tree::proofs::Blocked::record_in), unfolding(crate::specs::Enter::hinted_of))]
 pub fn hinted(tree: &[u8], words: &[u64], set: Settings, here: Here, loc: Loc, r: Out) -> Loc
     requires blocked { Blocked tree.now }
     requires node_bound { here.node < nodes_of tree.now }
@@ -152,6 +160,7 @@ pub fn hinted(tree: &[u8], words: &[u64], set: Settings, here: Here, loc: Loc, r
 }
 
 // The hint's place, if it is a child.
+#[tactic(auto, using(tree::proofs::Blocked::record_in, moves::proofs::Kids::kids_within), unfolding(crate::specs::Enter::hint_place))]
 pub fn hint_place(tree: &[u8], here: Here, loc: Loc) -> Option<usize>
     requires laid { Laid tree.now }
     requires node_bound { here.node < nodes_of tree.now }

@@ -1,3 +1,1 @@
 pub mod Negated
-pub mod Tested
-pub mod Ones

@@ -78,12 +78,12 @@ module _ (x s : ℤ) (hx : mag x < 32768) (hs : mag s < 32768) where
   pub least_not_above : lt_z s (negsuc 32766) ≡ true → false ≡ lt_z x (neg16 s)
   least_not_above t = sym (off_lt x (neg16 s) hx (neg_mag s) ∙ le-ltb (off x) (off (neg16 s)) (omega (arith, off_neg s hs, least s hs t)))
 
-  pub least_below : lt_z s (negsuc 32766) ≡ true → lt_z (negsuc 32767) x ≡ lt_z (neg16 s) x
+  pub least_below : lt_z s (negsuc 32766) ≡ true → lt_z (neg16 s) x ≡ lt_z (negsuc 32767) x
   unfolding off
   least_below t =
-      off_lt (negsuc 32767) x (omega arith) hx ∙ ap (λ (k : ℕ). ltb k (off x)) z ∙ sym (off_lt (neg16 s) x (neg_mag s) hx)
+      off_lt (neg16 s) x (neg_mag s) hx ∙ ap (λ (k : ℕ). ltb k (off x)) z ∙ sym (off_lt (negsuc 32767) x (omega arith) hx)
     where
-      z : 0 ≡ off (neg16 s)
+      z : off (neg16 s) ≡ 0
       z = omega (arith, off_neg s hs, least s hs t)
 
   pub sum_is_above : lt_z s (negsuc 32766) ≡ false → lt_z (x +ℤ s) (pos 0) ≡ lt_z x (neg16 s)
@@ -93,9 +93,9 @@ module _ (x s : ℤ) (hx : mag x < 32768) (hs : mag s < 32768) where
       (λ l. omega (arith, off_neg s hs, not_least s hs t, off_below s hs)) (λ l. omega (arith, off_neg s hs, not_least s hs t, off_below s hs))
       ∙ sym (off_lt x (neg16 s) hx (neg_mag s))
 
-  pub sum_is_below : lt_z s (negsuc 32766) ≡ false → lt_z (pos 0) (x +ℤ s) ≡ lt_z (neg16 s) x
+  pub sum_is_below : lt_z s (negsuc 32766) ≡ false → lt_z (neg16 s) x ≡ lt_z (pos 0) (x +ℤ s)
   sum_is_below t =
-      sum_above x s hx hs
-      ∙ same_test 65536 (off x + off s) (off (neg16 s)) (off x) _ _ refl refl
+      off_lt (neg16 s) x (neg_mag s) hx
+      ∙ same_test (off (neg16 s)) (off x) 65536 (off x + off s) _ _ refl refl
       (λ l. omega (arith, off_neg s hs, not_least s hs t, off_below s hs)) (λ l. omega (arith, off_neg s hs, not_least s hs t, off_below s hs))
-      ∙ sym (off_lt (neg16 s) x (neg_mag s) hx)
+      ∙ sym (sum_above x s hx hs)

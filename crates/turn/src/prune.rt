@@ -1,5 +1,7 @@
 // Futility, and the reductions of late moves.
-ghost use Rattle.std.specs.Prelude.{◌≡◌, ◌+◌, ◌-◌, ◌≤◌, ◌<◌, min};
+ghost use Rattle.std.specs.Prelude.{◌≡◌, ◌+◌, ◌-◌, ◌*◌, ◌≤◌, ◌<◌, pos, min};
+ghost use Rattle.std.specs.Int.Signed.{lt_z};
+ghost use Rattle.score.specs.Wrap.{add16};
 ghost use Rattle.tree.specs.Blocks.{Blocked, nodes_of};
 ghost use Rattle.turn.specs.Prune.{one, futile_of, late_of, reduction_at};
 
@@ -8,7 +10,17 @@ use record::node;
 use score::add16;
 use state::Settings;
 
+// Whether the evaluation and 50 a depth lie below alpha.
+#[tactic(auto, using(carry::proofs::Margins::margin_fits, carry::proofs::Margins::margin_is))]
+fn below_alpha(here: Here, loc: Loc) -> bool
+    requires { here.depth < 6 }
+    ensures { result ≡ lt_z (add16 here.eval (pos (50 * here.depth))) loc.alpha }
+{
+    add16(here.eval, 50 * (here.depth as i16)) < loc.alpha
+}
+
 // Whether a quiet later move can't reach alpha.
+#[tactic(auto, using(tree::proofs::Blocked::record_in), unfolding(crate::specs::Prune::futile_of))]
 pub fn futile(tree: &[u8], set: Settings, here: Here, loc: Loc, c: usize) -> bool
     requires blocked { Blocked tree.now }
     requires node_bound { here.node < nodes_of tree.now }
@@ -21,20 +33,18 @@ pub fn futile(tree: &[u8], set: Settings, here: Here, loc: Loc, c: usize) -> boo
         && !node::in_check(tree, here.node)
         && !node::in_check(tree, c)
         && node::is_quiet(tree, c)
-        && add16(here.eval, 50 * (here.depth as i16)) < loc.alpha
+        && below_alpha(here, loc)
 }
 
 // Whether a move is late and quiet: i moves were tried before it.
+#[tactic(auto, using(tree::proofs::Blocked::record_in), unfolding(crate::specs::Prune::late_of))]
 fn late(tree: &[u8], set: Settings, here: Here, c: usize, i: usize) -> bool
     requires blocked { Blocked tree.now }
     requires c_bound { c < nodes_of tree.now }
     requires i_bound { i < 63 }
     ensures { result ≡ late_of tree.now set here c i }
 {
-    set.late_move
-        && node::is_quiet(tree, c)
-        && here.depth > 2
-        && 3 + usize::from(here.full) < i + 1
+    set.late_move && node::is_quiet(tree, c) && here.depth > 2 && 3 + usize::from(here.full) < i + 1
 }
 
 // r - less, held to 0..most.
@@ -45,6 +55,7 @@ fn held(r: u8, less: u8, most: u8) -> u8
 }
 
 // By how much a late quiet move's depth is reduced.
+#[tactic(auto, using(tree::proofs::Blocked::record_in), unfolding(crate::specs::Prune::reduction_if))]
 pub fn reduction(tree: &[u8], set: Settings, here: Here, c: usize, i: usize) -> u8
     requires blocked { Blocked tree.now }
     requires node_bound { here.node < nodes_of tree.now }

@@ -50,13 +50,14 @@ pub fn null(here: Here, loc: Loc, c: usize, d: u8) -> Args
         node: c,
         side: 1 - here.side,
         alpha: sub16(beta, 1),
-        beta: beta,
+        beta,
         depth: here.depth - 1 - d,
         ply: here.ply + 1,
     }
 }
 
 // The first move's score and move are the best so far, whatever they are.
+#[tactic(auto, using(tree::proofs::Blocked::record_in))]
 pub fn first(tree: &[u8], loc: Loc, c: usize, r: Out) -> Loc
     requires blocked { Blocked tree.now }
     requires c_bound { c < nodes_of tree.now }
@@ -71,26 +72,26 @@ pub fn first(tree: &[u8], loc: Loc, c: usize, r: Out) -> Loc
 
 // Whether a child's score, negated, is above alpha. A sum of 32 bits tells it sooner than a negation of 16 does; -32,768 is its own
 // negation.
+#[tactic(auto, using(crate::proofs::Negated::least_not_above, crate::proofs::Negated::sum_is_above, crate::proofs::Negated::sum_fits))]
 fn beats(alpha: i16, score: i16) -> bool
     ensures { result ≡ lt_z alpha (neg16 score) }
 {
-    if score < -32767 {
-        return false;
-    }
-    (alpha as i32) + (score as i32) < 0
+    score > -32768 && i32::from(alpha) + i32::from(score) < 0
 }
 
 // Whether a child's score, negated, is below beta.
+#[tactic(auto, using(crate::proofs::Negated::least_below, crate::proofs::Negated::sum_is_below, crate::proofs::Negated::sum_fits))]
 fn under(score: i16, beta: i16) -> bool
     ensures { result ≡ lt_z (neg16 score) beta }
 {
     if score < -32767 {
         return -32768 < beta;
     }
-    0 < (beta as i32) + (score as i32)
+    0 < i32::from(beta) + i32::from(score)
 }
 
 // Whether a reduced visit beat alpha.
+#[tactic(auto, unfolding(crate::specs::Window::again_of))]
 pub fn again(loc: Loc, d: u8, r: Out) -> bool
     ensures { result ≡ again_of loc d r }
 {
@@ -98,6 +99,7 @@ pub fn again(loc: Loc, d: u8, r: Out) -> bool
 }
 
 // Whether a null window's score lies strictly inside the window.
+#[tactic(auto, unfolding(crate::specs::Window::inside_of))]
 pub fn inside(here: Here, loc: Loc, r: Out) -> bool
     ensures { result ≡ inside_of here loc r }
 {
@@ -105,6 +107,7 @@ pub fn inside(here: Here, loc: Loc, r: Out) -> bool
 }
 
 // What a child's answer makes of the walk: nothing, a higher alpha, or a cutoff.
+#[tactic(auto, unfolding(crate::specs::Window::judge_of, crate::specs::Window::raise_if, crate::specs::Window::beta_if))]
 pub fn judge(here: Here, loc: Loc, mv: u16, r: Out) -> Turn
     ensures { result ≡ judge_of here loc mv r }
 {
