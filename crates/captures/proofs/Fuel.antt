@@ -31,7 +31,9 @@ CapturesFuel =
     → captures_f k set t s words a ≡ captures_f m set t s words a
 
 -- a walk's rest reads only what is left of it
-next_same : (w : Turn) (words : List ℕ) (f g : Loc → List ℕ → Over Turn) → ((l : Loc) (words : List ℕ) → f l words ≡ g l words) → next_if w words f ≡ next_if w words g
+next_same
+    : (w : Turn) (words : List ℕ) (f g : Loc → List ℕ → Over Turn) → ((l : Loc) (words : List ℕ) → f l words ≡ g l words)
+    → next_if w words f ≡ next_if w words g
 unfolding next_if
 next_same (Break l) words f g e = refl
 next_same (Continue l) words f g e = e l words
@@ -68,7 +70,8 @@ module _ (set : Settings) (t : List ℕ) (ok : AcceptedBy set t) where
   entered-same (Continue (h, l)) v w s words a ex lt e =
       let en = (enter_stays set t words s a h l ex).0 in
       ap (finish_of t set h)
-      (walk_same v w h (subst (λ (n : ℕ). Alike n v w) (sym en) e) (noisy_place t h l) (omega (arith, en)) (noisy_among t h l) (count_of t h.node) 0 (omega arith) l words)
+      (walk_same v w h (subst (λ (n : ℕ). Alike n v w) (sym en) e) (noisy_place t h l) (omega (arith, en)) (noisy_among t h l)
+      (count_of t h.node) 0 (omega arith) l words)
 
 pub captures_fuel : CapturesFuel
 unfolding captures_f

@@ -18,22 +18,20 @@ use Rattle.state.specs.Accepted.{AcceptedBy}
 use Rattle.moves.specs.Order.{child_of}
 use Rattle.state.specs.State.{Over, over, poll_of, seen_of, count_node}
 use Rattle.moves.specs.Kid.{Kid}
-use Rattle.moves.proofs.Kids.{kid}
+use Rattle.tree.proofs.Blocked.{record_in}
+use Rattle.moves.proofs.Kids.{kid, blocked, laid}
 use Rattle.moves.proofs.Ordered.{Among, among, nowhere, place_among}
 use Rattle.capture_steps.specs.declared.Capture.{Capture}
 use Rattle.capture_steps.specs.declared.Here.{Here}
 use Rattle.capture_steps.specs.declared.Loc.{Loc}
 use Rattle.std.specs.declared.ops.ControlFlow.TheVariants.{Continue, Break}
 use Rattle.captures.specs.Reach.{Reach}
-use Rattle.capture_steps.specs.Step.{Turn, Entered, Pat, stand_pat, cut_if, consulted, patted, stop_if, enter_of, noisy_if, noisy_at, noisy_place, down_of, finish_of}
+use Rattle.capture_steps.specs.Step.{Turn, Entered, Pat, stand_pat, cut_if, consulted, patted, stop_if, enter_of}
+use Rattle.capture_steps.specs.Step.{noisy_if, noisy_at, noisy_place, down_of, finish_of}
 use Rattle.captures.specs.Captures.{Visit, judged, turn_if, turn_f, next_if, next_f, walk_f, walk_all, entered_f, captures_f}
 
 -- one child
 module _ (v : Visit) (set : Settings) (t : List ℕ) (h : Here) (l : Loc) (c : ℕ) (words : List ℕ) where
-  pub turn_quiet : is_quiet t c ≡ true → over (Continue l) words ≡ turn_f v set t h l c words
-  unfolding turn_if
-  turn_quiet e = sym (ap (λ (q : Bool). turn_if q v set t h l c words) e)
-
   pub turn_noisy : is_quiet t c ≡ false → (r : Over Out) → r ≡ v (count_node l.state) words (down_of h l c) → judged set t h l c r ≡ turn_f v set t h l c words
   unfolding turn_if
   turn_noisy e r er = ap (judged set t h l c) er ∙ sym (ap (λ (q : Bool). turn_if q v set t h l c words) e)
@@ -66,9 +64,13 @@ pub visit_step : (k n : ℕ) (set : Settings) (t : List ℕ) (s : State) (words 
     → captures_f k set t s words a ≡ entered_f (enter_of set t words s a) (captures_f (k - 1) set t) set t words
 unfolding captures_f
 visit_step zero n set t s words a h = absurd (not-suc-le-zero h)
-visit_step (suc k) n set t s words a h = let e : k ≡ suc k - 1 = omega arith in ap (λ (j : ℕ). entered_f (enter_of set t words s a) (captures_f j set t) set t words) e
+visit_step (suc k) n set t s words a h =
+    let e : k ≡ suc k - 1 = omega arith in
+    ap (λ (j : ℕ). entered_f (enter_of set t words s a) (captures_f j set t) set t words) e
 
-module _ (k n : ℕ) (set : Settings) (t : List ℕ) (s : State) (words : List ℕ) (a : Capture) (more : n < k) (e : Entered) (ee : e ≡ enter_of set t words s a) where
+module _
+    (k n : ℕ) (set : Settings) (t : List ℕ) (s : State) (words : List ℕ) (a : Capture) (more : n < k) (e : Entered)
+    (ee : e ≡ enter_of set t words s a) where
   entered : entered_f e (captures_f (k - 1) set t) set t words ≡ captures_f k set t s words a
   entered = ap (λ (x : Entered). entered_f x (captures_f (k - 1) set t) set t words) ee ∙ sym (visit_step k n set t s words a more)
 
@@ -145,3 +147,6 @@ walk_reach set t words s a h l e = reach_walk t a h (enter_stays set t words s a
 pub kid_reach : (t : List ℕ) (k c below ply : ℕ) → Kid t k c → Reach t k below ply → Reach t c (below + 1) (ply + 1)
 kid_reach t k c below ply g r =
     record { in_tree = g.in_tree; below_least = omega (arith, g.level, r.below_least); ply_least = omega (arith, g.level, r.ply_least) }
+
+-- a node's record lies in an accepted tree
+pub ruleset tree_rules = (blocked, laid, record_in)

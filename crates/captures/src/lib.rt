@@ -14,6 +14,7 @@ use state::{Out, Settings, State};
 use std::ops::ControlFlow;
 
 #[cycle(capture_visit)]
+#[tactic(auto, using(crate::proofs::Walks::tree_rules))]
 pub fn captures(tree: &[u8], words: &mut [u64], set: Settings, st: State, a: Capture) -> Out
     requires accepted_by { AcceptedBy set tree.now }
     requires reach { Reach tree.now a.node a.below a.ply }
@@ -32,6 +33,7 @@ pub fn captures(tree: &[u8], words: &mut [u64], set: Settings, st: State, a: Cap
 
 // The children in their order, until one cuts.
 #[cycle(capture_visit)]
+#[tactic(auto, using(crate::proofs::Walks::tree_rules))]
 fn walk(tree: &[u8], words: &mut [u64], set: Settings, here: Here, loc: Loc) -> Turn
     requires accepted_by { AcceptedBy set tree.now }
     requires reach { Reach tree.now here.node here.below here.ply }
@@ -52,6 +54,7 @@ fn walk(tree: &[u8], words: &mut [u64], set: Settings, here: Here, loc: Loc) -> 
 
 // One child: a quiet one is passed over.
 #[cycle(capture_visit)]
+#[tactic(auto, using(crate::proofs::Walks::tree_rules), unfolding(crate::specs::Captures::turn_if))]
 fn turn(tree: &[u8], words: &mut [u64], set: Settings, here: Here, loc: Loc, c: usize) -> Turn
     requires accepted_by { AcceptedBy set tree.now }
     requires node_bound { here.node < nodes_of tree.now }

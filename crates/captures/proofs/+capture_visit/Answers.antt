@@ -1,20 +1,18 @@
 -- The cycle of the captures search (captures, walk, turn) meets its contracts. The measure of a call is the nodes that remain, then a number for
 -- the function. Each answer cites the laws of Walks. Assumes nothing.
-use Prim.Native.Nat.{◌-◌}
+use Prim.Native.Nat.{◌-◌, ◌<◌}
 use mathlib.Core.Path.{sym, ap, ap₂, subst, ◌∙◌}
 use native.Mathlib.Omega.{arith}
-use Rattle.tree.proofs.Blocked.{record_in}
 use Rattle.state.specs.State.{over}
+use Rattle.record.specs.Node.{count_of}
 use Rattle.moves.specs.Kid.{Kid}
-use Rattle.moves.proofs.Kids.{blocked, laid, level_low}
+use Rattle.moves.proofs.Kids.{level_low}
 use Rattle.capture_steps.specs.Step.{Turn}
 use Rattle.captures.specs.Reach.{Reach}
 use Rattle.captures.specs.Captures.{turn_f, walk_f, captures_f}
-use Rattle.captures.proofs.Walks.{turn_quiet, turn_noisy, walk_next, walk_cut, walk_over, visit_answer, visit_moves, Stays, enter_stays, walk_reach, kid_at, kid_reach}
+use Rattle.captures.proofs.Walks.{turn_noisy, walk_next, walk_cut, walk_over, visit_answer, visit_moves}
+use Rattle.captures.proofs.Walks.{Stays, enter_stays, walk_reach, kid_at, kid_reach}
 use Rattle.captures.proofs.+capture_visit.Goals as goal
-
-pub captures-enter-requires-clause-blocked : goal.captures-enter-requires-clause-blocked
-captures-enter-requires-clause-blocked t c = blocked c.args.set c.args.tree.now c.requires.accepted_by
 
 pub captures-enter-requires-clause-below_bound : goal.captures-enter-requires-clause-below_bound
 captures-enter-requires-clause-below_bound t c =
@@ -30,9 +28,6 @@ captures-walk-w-requires t c =
         (walk_reach c.args.set c.args.tree.now c.args.words.now c.args.st c.args.a _ _ e c.requires.reach, c.requires.in_bounds),
       ),
     )
-
-pub captures-finish-requires-clause-blocked : goal.captures-finish-requires-clause-blocked
-captures-finish-requires-clause-blocked t c = blocked c.args.set c.args.tree.now c.requires.accepted_by
 
 pub captures-finish-requires-clause-node_bound : goal.captures-finish-requires-clause-node_bound
 captures-finish-requires-clause-node_bound t c =
@@ -50,19 +45,11 @@ captures-returns-in-Break t c = λ k h. visit_answer k _ c.args.set c.args.tree.
 
 pub captures-returns-in-Continue : goal.captures-returns-in-Continue
 captures-returns-in-Continue t c =
-    let stays : Stays c.args.a c.in-Continue.here = enter_stays c.args.set c.args.tree.now c.args.words.now c.args.st c.args.a _ _ (sym c.in-Continue.is ∙ c.enter.ensures) in
+    let e = sym c.in-Continue.is ∙ c.enter.ensures in
+    let stays : Stays c.args.a c.in-Continue.here = enter_stays c.args.set c.args.tree.now c.args.words.now c.args.st c.args.a _ _ e in
     λ k h. c.finish.ensures
     ∙ visit_moves k _ c.args.set c.args.tree.now c.args.st c.args.words.now c.args.a h _ c.enter.ensures _ _ c.in-Continue.is _
     (c.walk-w.ensures (k - 1) (omega (arith, h, stays.0)))
-
-pub turn-is_quiet-requires : goal.turn-is_quiet-requires
-turn-is_quiet-requires t c =
-    record_in c.args.tree.now (blocked c.args.set c.args.tree.now c.requires.accepted_by) c.args.c c.requires.reach.in_tree
-
-pub turn-returns-then-is_quiet : goal.turn-returns-then-is_quiet
-turn-returns-then-is_quiet t c =
-    λ k h. turn_quiet (captures_f k c.args.set c.args.tree.now) c.args.set c.args.tree.now c.args.here c.args.loc c.args.c c.args.words.now
-    (sym c.is_quiet.ensures ∙ c.if-is_quiet.true)
 
 pub turn-down-requires-clause-below_bound : goal.turn-down-requires-clause-below_bound
 turn-down-requires-clause-below_bound t c =
@@ -79,9 +66,6 @@ turn-captures-r-requires t c =
       (c.requires.accepted_by, (reach, c.requires.in_bounds)),
     )
 
-pub turn-judge-requires-clause-blocked : goal.turn-judge-requires-clause-blocked
-turn-judge-requires-clause-blocked t c = blocked c.args.set c.args.tree.now c.requires.accepted_by
-
 pub turn-judge-requires-clause-in_bounds : goal.turn-judge-requires-clause-in_bounds
 turn-judge-requires-clause-in_bounds t c =
     let low = level_low c.args.set c.args.tree.now c.requires.accepted_by c.args.c in
@@ -97,16 +81,6 @@ turn-returns t c =
     (c.captures-r.ensures k (omega (arith, h, c.requires.node_bound, c.requires.node_lt_c, c.requires.reach.in_tree, ap (λ x. x.node) c.down.ensures))
     ∙ ap₂ (λ x y. captures_f k set tree x words y) c.counted-st.ensures c.down.ensures)
 
-pub walk-child_count-n-requires : goal.walk-child_count-n-requires
-walk-child_count-n-requires t c =
-    record_in c.args.tree.now (blocked c.args.set c.args.tree.now c.requires.accepted_by) c.args.here.node c.requires.reach.in_tree
-
-pub walk-noisy_place-place-requires-clause-laid : goal.walk-noisy_place-place-requires-clause-laid
-walk-noisy_place-place-requires-clause-laid t c = laid c.args.set c.args.tree.now c.requires.accepted_by
-
-pub walk-child-c-requires-clause-blocked : goal.walk-child-c-requires-clause-blocked
-walk-child-c-requires-clause-blocked t c = blocked c.args.set c.args.tree.now c.requires.accepted_by
-
 pub walk-child-c-requires-clause-i_bound : goal.walk-child-c-requires-clause-i_bound
 walk-child-c-requires-clause-i_bound t c =
     (kid_at c.args.set c.args.tree.now c.requires.accepted_by c.args.here c.args.loc _ c.noisy_place-place.ensures c.requires.reach.in_tree c.loop-i.i
@@ -117,8 +91,9 @@ walk-turn-requires t c =
     let tree = c.args.tree.now in
     let here = c.args.here in
     let r = c.requires.reach in
+    let lt : c.loop-i.i < count_of tree here.node = omega (arith, c.loop-i-test.true, c.child_count-n.ensures) in
     let g = subst (Kid tree here.node) (sym c.child-c.ensures)
-    (kid_at c.args.set tree c.requires.accepted_by here c.args.loc _ c.noisy_place-place.ensures r.in_tree c.loop-i.i (omega (arith, c.loop-i-test.true, c.child_count-n.ensures))) in
+    (kid_at c.args.set tree c.requires.accepted_by here c.args.loc _ c.noisy_place-place.ensures r.in_tree c.loop-i.i lt) in
     let reach = kid_reach tree here.node c.child-c.result here.below here.ply g r in
     (omega (arith, c.decreases), (c.requires.accepted_by, (r.in_tree, (g.above, (reach, omega (arith, c.loop-i.invariant.0, c.requires.in_bounds))))))
 
@@ -127,8 +102,9 @@ walk-returns-in_err-l t c =
     let set = c.args.set in
     let tree = c.args.tree.now in
     let here = c.args.here in
+    let place = c.noisy_place-place.result in
     λ j h. ap (λ (x : Turn). over x c.turn.new.words) c.from_residual.ensures
-    ∙ sym (walk_cut (captures_f j set tree) set tree here c.noisy_place-place.result c.child_count-n.result c.loop-i.i c.loop-i.l c.loop-i.words _ _ c.loop-i-test.true
+    ∙ sym (walk_cut (captures_f j set tree) set tree here place c.child_count-n.result c.loop-i.i c.loop-i.l c.loop-i.words _ _ c.loop-i-test.true
     (c.turn.ensures j h ∙ ap (λ x. turn_f (captures_f j set tree) set tree here c.loop-i.l x c.loop-i.words) c.child-c.ensures) c.in_err-l.was)
     ∙ c.loop-i.invariant.1 j h
     ∙ ap₂ (λ x y. walk_f (captures_f j set tree) set tree here x y 0 c.args.loc c.args.words.now) c.noisy_place-place.ensures c.child_count-n.ensures
@@ -137,10 +113,11 @@ pub walk-loop-i-preserved : goal.walk-loop-i-preserved
 walk-loop-i-preserved t c =
     let set = c.args.set in
     let tree = c.args.tree.now in
-    let here = c.args.here in (
+    let here = c.args.here in
+    let place = c.noisy_place-place.result in (
       c.turn.auto.words ∙ c.loop-i.invariant.0,
       λ j h. sym
-          (walk_next (captures_f j set tree) set tree here c.noisy_place-place.result c.child_count-n.result c.loop-i.i c.loop-i.l c.loop-i.words _ _ c.loop-i-test.true
+          (walk_next (captures_f j set tree) set tree here place c.child_count-n.result c.loop-i.i c.loop-i.l c.loop-i.words _ _ c.loop-i-test.true
           (c.turn.ensures j h ∙ ap (λ x. turn_f (captures_f j set tree) set tree here c.loop-i.l x c.loop-i.words) c.child-c.ensures) c.in_ok-l.was)
           ∙ c.loop-i.invariant.1 j h,
     )
@@ -150,6 +127,7 @@ walk-returns t c =
     let set = c.args.set in
     let tree = c.args.tree.now in
     let here = c.args.here in
-    λ j h. sym (walk_over (captures_f j set tree) set tree here c.noisy_place-place.result c.child_count-n.result c.loop-i.i c.loop-i.l c.loop-i.words c.loop-i-test.false)
+    let place = c.noisy_place-place.result in
+    λ j h. sym (walk_over (captures_f j set tree) set tree here place c.child_count-n.result c.loop-i.i c.loop-i.l c.loop-i.words c.loop-i-test.false)
     ∙ c.loop-i.invariant.1 j h
     ∙ ap₂ (λ x y. walk_f (captures_f j set tree) set tree here x y 0 c.args.loc c.args.words.now) c.noisy_place-place.ensures c.child_count-n.ensures

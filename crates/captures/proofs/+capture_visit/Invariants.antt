@@ -15,4 +15,5 @@ decreases-walk l = 3 * (nodes_of l.tree.now - l.here.node) + 1
 
 abbrev pub invariant-walk-loop-i : goal.invariant-walk-loop-i
 invariant-walk-loop-i l = (length l.words ≡ length l.initial.words) × ((j : ℕ) → nodes_of l.tree - l.here.node ≤ j →
-    walk_f (captures_f j l.set l.tree) l.set l.tree l.here l.place (l.n - l.i) l.i l.l l.words ≡ walk_f (captures_f j l.set l.tree) l.set l.tree l.here l.place l.n 0 l.initial.l l.initial.words)
+    walk_f (captures_f j l.set l.tree) l.set l.tree l.here l.place (l.n - l.i) l.i l.l l.words
+    ≡ walk_f (captures_f j l.set l.tree) l.set l.tree l.here l.place l.n 0 l.initial.l l.initial.words)
