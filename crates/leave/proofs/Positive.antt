@@ -9,10 +9,6 @@ use lib.Signed.{lt_z}
 use mir.Syntax.{w16}
 use mir.Val.{of_z}
 
-pub positive_bits : (z : ℤ) → lt_z (pos 0) z ≡ true → of_z w16 z ≡ nat_abs z
-positive_bits (pos n) e = refl
-positive_bits (negsuc n) e = cc
-
 pub positive_abs : (z : ℤ) → lt_z (pos 0) z ≡ true → 0 < nat_abs z
 positive_abs (pos n) e = ltb-true 0 n e
 positive_abs (negsuc n) e = omega arith

@@ -4,7 +4,7 @@ use Rattle.std.specs.Int.Signed.{lt_z}
 use Rattle.score.specs.Wrap.{neg16, add16}
 use Rattle.transposition.specs.declared.Bound.{Bound}
 use Rattle.transposition.specs.declared.Bound.TheVariants.{Exact, Upper}
-use Rattle.core.specs.declared.ops.ControlFlow.TheVariants.{Continue, Break}
+use Rattle.std.specs.declared.ops.ControlFlow.TheVariants.{Continue, Break}
 use Rattle.record.specs.Node.{count_of, hash_of, in_check}
 use Rattle.state.specs.declared.Settings.{Settings}
 use Rattle.state.specs.declared.State.{State}

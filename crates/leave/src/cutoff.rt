@@ -11,15 +11,8 @@ use record::node;
 use state::Settings;
 use transposition::Bound;
 
-// HH_MAX as the history takes it.
-fn history_max(set: Settings) -> u16
-    requires { lt_z (pos 0) set.hh_max ≡ true }
-    ensures { result ≡ nat_abs set.hh_max }
-{
-    score::bits16(set.hh_max)
-}
-
 // The malus of the i-th move tried, if it is quiet and not the first.
+#[tactic(auto, using(tree::proofs::Blocked::record_in), unfolding(crate::specs::Cutoff::malus_if))]
 fn malus_at(tree: &[u8], history: &mut [i16], hh: u16, here: Here, c: usize, i: usize)
     requires blocked { Blocked tree.now }
     requires c_bound { c < nodes_of tree.now }
@@ -33,7 +26,16 @@ fn malus_at(tree: &[u8], history: &mut [i16], hh: u16, here: Here, c: usize, i: 
 }
 
 // Bonus, then the malus of each earlier move in order. The earlier moves are found again by walking the children.
-fn credit(tree: &[u8], history: &mut [i16], hh: u16, here: Here, place: Option<usize>, mv: u16, n: usize)
+#[tactic(auto, using(crate::proofs::Credits::malus_none, crate::proofs::Credits::malus_more), unfolding(crate::specs::Cutoff::credit_of))]
+fn credit(
+    tree: &[u8],
+    history: &mut [i16],
+    hh: u16,
+    here: Here,
+    place: Option<usize>,
+    mv: u16,
+    n: usize,
+)
     requires blocked { Blocked tree.now }
     requires node_bound { here.node < nodes_of tree.now }
     requires by_index { (j : ℕ) → j < n → child_of tree.now here.node place j < nodes_of tree.now }
@@ -48,6 +50,7 @@ fn credit(tree: &[u8], history: &mut [i16], hh: u16, here: Here, place: Option<u
 }
 
 // A cutoff by the i-th move, which leads to c: bonus and malus if it is quiet, and the score stored as Lower.
+#[tactic(auto, using(tree::proofs::Blocked::record_in, crate::proofs::Positive::positive_abs), unfolding(crate::specs::Cutoff::cutoff_of, crate::specs::Cutoff::credit_if))]
 pub fn cutoff(
     tree: &[u8],
     words: &mut [u64],
@@ -68,11 +71,17 @@ pub fn cutoff(
 {
     let hash = node::hash(tree, here.node);
     let depth = here.depth as i8;
-    let state = loc
-        .state
-        .keep(words, set.table, hash, depth, loc.best, loc.mv, Bound::Lower);
+    let state = loc.state.keep(
+        words,
+        set.table,
+        hash,
+        depth,
+        loc.best,
+        loc.mv,
+        Bound::Lower,
+    );
     if node::is_quiet(tree, c) {
-        let hh = history_max(set);
+        let hh = set.hh_max.unsigned_abs();
         credit(tree, history, hh, here, place, loc.mv, i);
     }
     Loc { state, ..loc }

@@ -15,6 +15,8 @@ use Rattle.state.specs.declared.Settings.{Settings}
 use Rattle.state.specs.declared.State.{State}
 use Rattle.state.specs.declared.Consulted.{Consulted}
 use Rattle.std.specs.declared.option.Option.{Option}
+use Rattle.std.specs.declared.option.Option.TheVariants.{Some, None}
+use Rattle.std.specs.declared.ops.ControlFlow.TheVariants.{Continue, Break}
 use Rattle.state.specs.Accepted.{AcceptedBy}
 use Rattle.moves.specs.Kid.{Kid}
 use Rattle.moves.specs.Order.{child_of}
@@ -25,8 +27,7 @@ use Rattle.captures.specs.Reach as captures
 use Rattle.carry.specs.declared.Args.{Args}
 use Rattle.carry.specs.declared.Here.{Here}
 use Rattle.carry.specs.declared.Loc.{Loc}
-use Rattle.carry.specs.declared.Entered.{Entered}
-use Rattle.carry.specs.declared.Entered.TheVariants.{Answer, Moves}
+use Rattle.carry.specs.Carry.{Entered}
 use Rattle.enter.specs.Enter.{hint_place, extended, extend_of, here_of, loc_of, reverse_futile, reverse_if, cut_if, consulted, full_window, probe_of, draw_if, enter_of, deepens_of, inner_of}
 use Rattle.turn.specs.Window.{full_of, null_of}
 use Rattle.turn.specs.Prune.{reduction_if, reduction_at, late_of}
@@ -69,18 +70,18 @@ abbrev pub Stays : Args → Here → Type 0
 Stays a h = (h.node ≡ a.node) × ((h.side ≡ a.side) × ((h.depth ≡ a.depth) × (h.ply ≡ a.ply)))
 
 abbrev Leaves : Args → Entered → Type 0
-Leaves a (Answer o) = Unit {0}
-Leaves a (Moves h l) = Stays a h
+Leaves a (Break o) = Unit {0}
+Leaves a (Continue (h, l)) = Stays a h
 
 leaves_reverse : (b : Bool) (a : Args) (h : Here) (l : Loc) → Stays a h → Leaves a (reverse_if b h l)
 unfolding reverse_if
 leaves_reverse true a h l s = tt
 leaves_reverse false a h l s = s
 
-leaves_cut : (b : Bool) (set : Settings) (t : List ℕ) (a : Args) (full : Bool) (w : Consulted) (s : State) → Leaves a (cut_if b set t a full w s)
+leaves_cut : (cut : Option ℤ) (set : Settings) (t : List ℕ) (a : Args) (full : Bool) (w : Consulted) (s : State) → Leaves a (cut_if cut set t a full w s)
 unfolding cut_if
-leaves_cut true set t a full w s = tt
-leaves_cut false set t a full w s =
+leaves_cut (Some x) set t a full w s = tt
+leaves_cut None set t a full w s =
     leaves_reverse (reverse_futile t set (here_of t a full w)) a (here_of t a full w) (loc_of a w s) (refl, (refl, (refl, refl)))
 
 leaves_draw : (b : Bool) (set : Settings) (t words : List ℕ) (s : State) (a : Args) → Leaves a (draw_if b set t words s a)
@@ -91,7 +92,7 @@ leaves_draw false set t words s a =
     let full = full_window a.alpha a.beta in
     leaves_cut (consulted seen a full).cut set t a full (consulted seen a full) seen.state
 
-pub enter_stays : (set : Settings) (t words : List ℕ) (s : State) (a : Args) (h : Here) (l : Loc) → Moves h l ≡ enter_of set t words s a → Stays a h
+pub enter_stays : (set : Settings) (t words : List ℕ) (s : State) (a : Args) (h : Here) (l : Loc) → Continue (h, l) ≡ enter_of set t words s a → Stays a h
 unfolding enter_of
 enter_stays set t words s a h l e = subst (Leaves a) (sym e) (leaves_draw (is_draw t a.node) set t words s a)
 

@@ -7,6 +7,7 @@ use native.Mathlib.Omega.{arith}
 use lib.Dec.{eqb}
 use lib.IntN.{ℤ}
 use borrow.Author.Tests.{eq-eqb, ne_eqb}
+use Rattle.std.specs.declared.ops.ControlFlow.TheVariants.{Continue, Break}
 use Rattle.record.specs.Node.{move_of}
 use Rattle.state.specs.declared.Settings.{Settings}
 use Rattle.state.specs.declared.Out.{Out}
@@ -14,12 +15,11 @@ use Rattle.std.specs.declared.option.Option.{Option}
 use Rattle.moves.specs.Order.{child_of}
 use Rattle.carry.specs.declared.Here.{Here}
 use Rattle.carry.specs.declared.Loc.{Loc}
-use Rattle.carry.specs.declared.Turn.{Turn}
-use Rattle.carry.specs.Carry.{With, with}
-use Rattle.turn.specs.Window.{unfinished, counted_of, full_of, null_of, again_of, inside_of}
+use Rattle.carry.specs.Carry.{Turn, With, with}
+use Rattle.turn.specs.Window.{counted_of, full_of, null_of, again_of, inside_of}
 use Rattle.turn.specs.Prune.{futile_of, reduction_at}
 use Rattle.leave.specs.Cutoff.{cutoff_of}
-use Rattle.visits.specs.Search.{Visit, widen_if, widen_f, again_if, again_f, reduced_f, judged, judged_first, futile_if, turn_if, turn_f, next_if, next_f, walk_f}
+use Rattle.visits.specs.Search.{Visit, widen_if, widen_f, again_if, again_f, reduced_f, judged, judged_first, futile_if, turn_if, turn_f, cut_of, next_if, next_f, walk_f}
 
 -- the full window again
 module _ (v : Visit) (h : Here) (l : Loc) (c : ℕ) (r : With Out) where
@@ -59,7 +59,7 @@ module _ (v : Visit) (t : List ℕ) (set : Settings) (h : Here) (c i : ℕ) (l�
     unfolding turn_if
     futile = sym (ap (λ (b : Bool). turn_if b v t set h l c i words hist) (ne_eqb i 0 later)) ∙ counted
 
-    pub turn_futile : futile_of t set h l c ≡ true → with (unfinished l) words hist ≡ turn_f v t set h c i l₀ words hist
+    pub turn_futile : futile_of t set h l c ≡ true → with (Continue l) words hist ≡ turn_f v t set h c i l₀ words hist
     unfolding futile_if
     turn_futile e = sym (ap (λ (b : Bool). futile_if b v t set h l c i words hist) e) ∙ futile
 
@@ -72,6 +72,9 @@ module _ (v : Visit) (t : List ℕ) (set : Settings) (h : Here) (c i : ℕ) (l�
 -- the rest of a walk: n moves, the i-th is next
 module _ (v : Visit) (t : List ℕ) (set : Settings) (h : Here) (p : Option ℕ) (n i : ℕ) (l : Loc) (words : List ℕ) (hist : List ℤ) where
   module _ (s : With Turn) (lt : i < n) (e : s ≡ turn_f v t set h (child_of t h.node p i) i l words hist) where
+    abbrev rest : Turn → With Turn
+    rest q = next_if q s.words s.history t set h p (child_of t h.node p i) i (walk_f v t set h p (n - (i + 1)) (i + 1))
+
     step : walk_f v t set h p (n - i) i l words hist ≡ next_f t set h p (child_of t h.node p i) i s (walk_f v t set h p (n - (i + 1)) (i + 1))
     unfolding walk_f
     step =
@@ -79,14 +82,14 @@ module _ (v : Visit) (t : List ℕ) (set : Settings) (h : Here) (p : Option ℕ)
         ap (λ (m : ℕ). walk_f v t set h p m i l words hist) m
         ∙ sym (ap (λ (x : With Turn). next_f t set h p (child_of t h.node p i) i x (walk_f v t set h p (n - (i + 1)) (i + 1))) e)
 
-    pub walk_next : s.it.done ≡ false → walk_f v t set h p (n - i) i l words hist ≡ walk_f v t set h p (n - (i + 1)) (i + 1) s.it.loc s.words s.history
+    pub walk_next : (m : Loc) → s.it ≡ Continue m → walk_f v t set h p (n - i) i l words hist ≡ walk_f v t set h p (n - (i + 1)) (i + 1) m s.words s.history
     unfolding next_if
-    walk_next d = step ∙ ap (λ (q : Bool). next_if q t set h p (child_of t h.node p i) i s (walk_f v t set h p (n - (i + 1)) (i + 1))) d
+    walk_next m d = step ∙ ap rest d
 
-    pub walk_cut : s.it.done ≡ true → walk_f v t set h p (n - i) i l words hist ≡ cutoff_of t set h p (child_of t h.node p i) i s.it.loc s.words s.history
+    pub walk_cut : (m : Loc) → s.it ≡ Break m → walk_f v t set h p (n - i) i l words hist ≡ cut_of (cutoff_of t set h p (child_of t h.node p i) i m s.words s.history)
     unfolding next_if
-    walk_cut d = step ∙ ap (λ (q : Bool). next_if q t set h p (child_of t h.node p i) i s (walk_f v t set h p (n - (i + 1)) (i + 1))) d
+    walk_cut m d = step ∙ ap rest d
 
-  pub walk_over : n ≤ i → walk_f v t set h p (n - i) i l words hist ≡ with (unfinished l) words hist
+  pub walk_over : n ≤ i → walk_f v t set h p (n - i) i l words hist ≡ with (Continue l) words hist
   unfolding walk_f
   walk_over le = let e : n - i ≡ 0 = omega arith in ap (λ (m : ℕ). walk_f v t set h p m i l words hist) e

@@ -7,6 +7,7 @@ use native.Mathlib.Nat.{not-suc-le-zero}
 use native.Mathlib.Omega.{arith}
 use lib.IntN.{ℤ, pos}
 use borrow.Author.Tests.{eq-eqb, ne_eqb}
+use Rattle.std.specs.declared.ops.ControlFlow.TheVariants.{Continue, Break}
 use Rattle.state.specs.declared.Settings.{Settings}
 use Rattle.state.specs.declared.State.{State}
 use Rattle.state.specs.declared.Out.{Out}
@@ -15,10 +16,7 @@ use Rattle.captures.specs.Captures.{captures_f}
 use Rattle.carry.specs.declared.Args.{Args}
 use Rattle.carry.specs.declared.Here.{Here}
 use Rattle.carry.specs.declared.Loc.{Loc}
-use Rattle.carry.specs.declared.Turn.{Turn}
-use Rattle.carry.specs.declared.Entered.{Entered}
-use Rattle.carry.specs.declared.Entered.TheVariants.{Answer, Moves}
-use Rattle.carry.specs.Carry.{With, with, beside}
+use Rattle.carry.specs.Carry.{Turn, Entered, With, with, beside}
 use Rattle.enter.specs.Enter.{extend_of, enter_of, deepens_of, inner_of}
 use Rattle.leave.specs.Finish.{finish_of}
 use Rattle.visits.specs.Search.{Visit, capture_of, walk_all, hinted, deepen_if, deepen_f, entered_f, depth_if, depth_f, stop_if, polled_f, visit_f}
@@ -69,11 +67,11 @@ module _ (k n : ℕ) (t : List ℕ) (set : Settings) (st s : State) (words : Lis
       entered =
           ap (λ (y : Entered). entered_f y v t set words hist) ee ∙ sym (ap (λ (b : Bool). depth_if b k v t set s words hist x) (ne_eqb x.depth 0 deep)) ∙ going
 
-      pub visit_answer : (o : Out) → e ≡ Answer o → with o words hist ≡ visit_f k t set st words hist a
+      pub visit_answer : (o : Out) → e ≡ Break o → with o words hist ≡ visit_f k t set st words hist a
       unfolding entered_f
       visit_answer o q = sym (ap (λ (y : Entered). entered_f y v t set words hist) q) ∙ entered
 
-      pub visit_moves : (h : Here) (l : Loc) → e ≡ Moves h l → (d : With Loc) → d ≡ deepen_f v t set h l words hist → (w : With Turn) → w ≡ walk_all v t set h d
+      pub visit_moves : (h : Here) (l : Loc) → e ≡ Continue (h, l) → (d : With Loc) → d ≡ deepen_f v t set h l words hist → (w : With Turn) → w ≡ walk_all v t set h d
           → finish_of t set h w ≡ visit_f k t set st words hist a
       unfolding entered_f
       visit_moves h l q d ed w ew =

@@ -1,7 +1,7 @@
 -- The node search: a node's visit walks its children, and each child is a visit again. `v` is the visit of a child, or of the node itself at a
 -- lower depth, one unit of fuel down; the pair of nodes left and depth is fuel enough. Assumes nothing.
 use Rattle.std.specs.Prelude.{Bool, true, false, List, ℕ, zero, suc, ◌+◌, ◌*◌, eqb, ℤ, pos}
-use Rattle.core.specs.declared.ops.ControlFlow.TheVariants.{Continue, Break}
+use Rattle.std.specs.declared.ops.ControlFlow.TheVariants.{Continue, Break}
 use Rattle.tree.specs.Blocks.{nodes_of}
 use Rattle.record.specs.Node.{count_of, move_of}
 use Rattle.state.specs.declared.Settings.{Settings}
@@ -107,7 +107,7 @@ deepen_f v t set h l words hist = deepen_if (deepens_of set h l) v t set h l wor
 
 unfoldable pub entered_f : Entered → Visit → List ℕ → Settings → List ℕ → List ℤ → With Out
 entered_f (Break o) v t set words hist = with o words hist
-entered_f (Continue (h , l)) v t set words hist = finish_of t set h (walk_all v t set h (deepen_f v t set h l words hist))
+entered_f (Continue (h, l)) v t set words hist = finish_of t set h (walk_all v t set h (deepen_f v t set h l words hist))
 
 -- 01, Visits: "depth 0: quiescence"; `k` is the fuel of captures
 unfoldable pub depth_if : Bool → ℕ → Visit → List ℕ → Settings → State → List ℕ → List ℤ → Args → With Out

@@ -1,12 +1,7 @@
 -- `leave::cutoff::credit` meets its contract. The loop's invariant: the malus of the moves before i is given. Assumes nothing.
 use mathlib.Core.Path.{◌≡◌}
-use Prim.Native.Nat.{◌-◌, ◌≤◌}
-use lib.ListN.{length}
 use Rattle.leave.specs.Cutoff.{malus_to}
 use Rattle.leave.proofs.cutoff.credit.Given as goal
 
 abbrev pub invariant-loop-i : goal.invariant-loop-i
-invariant-loop-i l = (l.i ≤ l.n) × ((length l.history ≡ 8192) × (l.history ≡ malus_to l.tree l.hh l.here l.place l.i l.initial.history))
-
-abbrev pub decreases-loop-i : goal.decreases-loop-i
-decreases-loop-i l = l.n - l.i
+invariant-loop-i l = l.history ≡ malus_to l.tree l.hh l.here l.place l.i l.initial.history
