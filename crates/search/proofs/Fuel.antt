@@ -7,6 +7,7 @@ use Prim.Native.Nat.{ℕ, zero, suc, ◌+◌, ◌-◌, ◌≤◌, ◌<◌}
 use native.Mathlib.Omega.{arith}
 use lib.Dec.{eqb}
 use lib.IntN.{ℤ}
+use Rattle.std.specs.declared.ops.ControlFlow.TheVariants.{Continue, Break}
 use Rattle.tree.specs.Blocks.{nodes_of}
 use Rattle.record.specs.Node.{count_of, move_of}
 use Rattle.state.specs.declared.Settings.{Settings}
@@ -23,10 +24,7 @@ use Rattle.captures.proofs.Fuel.{captures_fuel}
 use Rattle.carry.specs.declared.Args.{Args}
 use Rattle.carry.specs.declared.Here.{Here}
 use Rattle.carry.specs.declared.Loc.{Loc}
-use Rattle.carry.specs.declared.Turn.{Turn}
-use Rattle.carry.specs.declared.Entered.{Entered}
-use Rattle.carry.specs.declared.Entered.TheVariants.{Answer, Moves}
-use Rattle.carry.specs.Carry.{With, beside}
+use Rattle.carry.specs.Carry.{Turn, Entered, With, beside}
 use Rattle.enter.specs.Enter.{hint_place, extend_of, enter_of, deepens_of, inner_of}
 use Rattle.turn.specs.Window.{counted_of, full_of, null_of, again_of, inside_of}
 use Rattle.turn.specs.Prune.{futile_of, reduction_at}
@@ -59,11 +57,12 @@ NodeSearchAgain =
 
 -- a walk's rest reads only what is left of it
 next_same
-    : (b : Bool) (t : List ℕ) (set : Settings) (h : Here) (p : Option ℕ) (c i : ℕ) (s : With Turn) (f g : Loc → List ℕ → List ℤ → With Turn)
-    → ((l : Loc) (words : List ℕ) (hist : List ℤ) → f l words hist ≡ g l words hist) → next_if b t set h p c i s f ≡ next_if b t set h p c i s g
+    : (r : Turn) (words : List ℕ) (hist : List ℤ) (t : List ℕ) (set : Settings) (h : Here) (p : Option ℕ) (c i : ℕ) (f g : Loc → List ℕ → List ℤ → With Turn)
+    → ((l : Loc) (words : List ℕ) (hist : List ℤ) → f l words hist ≡ g l words hist)
+    → next_if r words hist t set h p c i f ≡ next_if r words hist t set h p c i g
 unfolding next_if
-next_same true t set h p c i s f g e = refl
-next_same false t set h p c i s f g e = e s.it.loc s.words s.history
+next_same (Break l) words hist t set h p c i f g e = refl
+next_same (Continue l) words hist t set h p c i f g e = e l words hist
 
 module _ (t : List ℕ) (set : Settings) (ok : AcceptedBy set t) where
   -- two visits that answer alike at the nodes of the tree, where they need less than n
@@ -119,7 +118,7 @@ module _ (t : List ℕ) (set : Settings) (ok : AcceptedBy set t) where
         let c = child_of t h.node p i in
         let turned = turn-same c (kid set t ok h.node i p lt a (omega arith)) (eqb i 0) (counted_of l) i words hist in
         ap (λ (s : With Turn). next_f t set h p c i s (walk_f v t set h p j (i + 1))) turned
-        ∙ next_same _ t set h p c i (turn_f w t set h c i l words hist) _ _ (walk_same p a j (i + 1) (omega arith))
+        ∙ next_same _ _ _ t set h p c i _ _ (walk_same p a j (i + 1) (omega arith))
 
     all_same : (l : With Loc) → walk_all v t set h l ≡ walk_all w t set h l
     all_same l = walk_same (hint_place t h l.it) (hint_among t h l.it) (count_of t h.node) 0 (omega arith) l.it l.words l.history
@@ -132,7 +131,7 @@ module _ (t : List ℕ) (set : Settings) (ok : AcceptedBy set t) where
         ap (hinted t set h l) (e l.state words hist (inner_of h l) lt (omega arith))
     deepen-same false l words hist eb = refl
 
-    moves-same : (l : Loc) (words : List ℕ) (hist : List ℤ) → entered_f (Moves h l) v t set words hist ≡ entered_f (Moves h l) w t set words hist
+    moves-same : (l : Loc) (words : List ℕ) (hist : List ℤ) → entered_f (Continue (h, l)) v t set words hist ≡ entered_f (Continue (h, l)) w t set words hist
     unfolding entered_f
     moves-same l words hist =
         ap (finish_of t set h) (ap (walk_all v t set h) (deepen-same (deepens_of set h l) l words hist refl) ∙ all_same (deepen_f w t set h l words hist))
@@ -142,8 +141,8 @@ module _ (t : List ℕ) (set : Settings) (ok : AcceptedBy set t) where
     module _ (s : State) (words : List ℕ) (hist : List ℤ) (x : Args) (lt : x.node < nodes_of t) (enough : need t x.node x.depth ≤ n + 1) where
       entered-same : (y : Entered) → y ≡ enter_of set t words s x → entered_f y v t set words hist ≡ entered_f y w t set words hist
       unfolding entered_f
-      entered-same (Answer o) ey = refl
-      entered-same (Moves h l) ey =
+      entered-same (Break o) ey = refl
+      entered-same (Continue (h, l)) ey =
           let stays = enter_stays set t words s x h l ey in
           let en = stays.0 in
           let ed = stays.1.1.0 in

@@ -2,14 +2,13 @@
 -- remain, then the depth, then a number for the function. Each answer cites the laws of Turns, Visits and Asked. `s` is a function's start, and p, q
 -- earlier places. Assumes nothing.
 use Prim.Native.Nat.{ℕ, ◌+◌, ◌-◌, ◌<◌, ◌≤◌}
-use mathlib.Core.Path.{◌≡◌, refl, sym, ap, ap₂, subst, ◌∙◌}
-use native.Mathlib.Nat.{sub-zero}
+use mathlib.Core.Path.{◌≡◌, sym, ap, ap₂, subst, ◌∙◌}
 use native.Mathlib.Omega.{arith}
 use Rattle.tree.proofs.Accepted.{count_most}
 use Rattle.tree.proofs.Blocked.{record_in}
 use Rattle.state.specs.declared.Out.{Out}
 use Rattle.state.specs.declared.State.{State}
-use Rattle.std.specs.declared.option.Option.{Option}
+use Rattle.record.specs.Node.{count_of}
 use Rattle.moves.specs.Kid.{Kid}
 use Rattle.moves.specs.Order.{child_of}
 use Rattle.moves.proofs.Kids.{blocked, laid, level_low}
@@ -18,12 +17,11 @@ use Rattle.captures.specs.Captures.{captures_f}
 use Rattle.capture_steps.specs.declared.Capture.{Capture}
 use Rattle.carry.specs.declared.Args.{Args}
 use Rattle.carry.specs.declared.Loc.{Loc}
-use Rattle.carry.specs.declared.Turn.{Turn}
-use Rattle.carry.specs.Carry.{with, beside}
+use Rattle.carry.specs.Carry.{Turn, with, beside}
 use Rattle.leave.specs.Cutoff.{cutoff_of}
 use Rattle.turn.specs.Window.{judge_of}
 use Rattle.visits.specs.Reach.{Reach, Inside}
-use Rattle.visits.specs.Search.{visit_f, walk_f, turn_f}
+use Rattle.visits.specs.Search.{visit_f, walk_f, turn_f, cut_of}
 use Rattle.visits.proofs.Turns.{widen_yes, widen_no, reduced_again, reduced_once, turn_first, turn_futile, turn_reduced, walk_next, walk_cut, walk_over}
 use Rattle.visits.proofs.Visits.{deepen_yes, deepen_no, visit_stop, visit_captures, visit_answer, visit_moves}
 use Rattle.visits.proofs.Asked.{Same, Stays, still_ready, same_after, most_after, enter_stays, inside, to_captures, deep_enough, to_inner, to_full, to_null, kid_at, reduction_most}
@@ -261,40 +259,40 @@ search_node-returns-then-depth-eq0 t c =
     (c.captures-q.ensures k (omega (arith, h, same.0))
     ∙ ap₂ (λ (x : State) (y : Capture). captures_f k set tree x words y) c.rebuilt.ensures c.capture_of.ensures)
 
-pub search_node-enter-e-requires-clause-blocked : goal.search_node-enter-e-requires-clause-blocked
-search_node-enter-e-requires-clause-blocked t c =
+pub search_node-enter-requires-clause-blocked : goal.search_node-enter-requires-clause-blocked
+search_node-enter-requires-clause-blocked t c =
     let tree = c.args.tree.now in
     let ready = c.requires.ready in
     blocked c.args.set tree ready.accepted
 
-pub search_node-enter-e-requires-clause-node_bound : goal.search_node-enter-e-requires-clause-node_bound
-search_node-enter-e-requires-clause-node_bound t c =
+pub search_node-enter-requires-clause-node_bound : goal.search_node-enter-requires-clause-node_bound
+search_node-enter-requires-clause-node_bound t c =
     let tree = c.args.tree.now in
     let same = same_after tree c.args.a c.extend-x.result c.extend-x.ensures in
     let r = c.requires.reach in
     omega (arith, r.in_tree, same.0)
 
-pub search_node-enter-e-requires-clause-depth_bound : goal.search_node-enter-e-requires-clause-depth_bound
-search_node-enter-e-requires-clause-depth_bound t c =
+pub search_node-enter-requires-clause-depth_bound : goal.search_node-enter-requires-clause-depth_bound
+search_node-enter-requires-clause-depth_bound t c =
     let tree = c.args.tree.now in
     let most = most_after tree c.args.a c.extend-x.result c.extend-x.ensures in
     let r = c.requires.reach in
     omega (arith, r.depth_most, most)
 
-pub search_node-enter-e-requires-clause-in_bounds : goal.search_node-enter-e-requires-clause-in_bounds
-search_node-enter-e-requires-clause-in_bounds t c =
+pub search_node-enter-requires-clause-in_bounds : goal.search_node-enter-requires-clause-in_bounds
+search_node-enter-requires-clause-in_bounds t c =
     let ready = c.requires.ready in
     ready.words_least
 
 pub search_node-deepen-l-requires : goal.search_node-deepen-l-requires
 search_node-deepen-l-requires t c =
     let longer : Args = c.extend-x.result in
-    let stays : Stays longer c.in-Moves.here = enter_stays c.args.set c.args.tree.now c.args.words.now
+    let stays : Stays longer c.in-Continue.here = enter_stays c.args.set c.args.tree.now c.args.words.now
     c.poll-s.result longer _ _
-    (sym c.in-Moves.is ∙ c.enter-e.ensures) in
+    (sym c.in-Continue.is ∙ c.enter.ensures) in
     let longer-same : Same longer c.args.a = same_after c.args.tree.now c.args.a longer c.extend-x.ensures in
     let longer-most : longer.depth ≤ c.args.a.depth + 1 = most_after c.args.tree.now c.args.a longer c.extend-x.ensures in
-    let here-inside : Inside c.args.tree.now c.in-Moves.here = inside c.args.tree.now c.args.a longer _ c.extend-x.ensures
+    let here-inside : Inside c.args.tree.now c.in-Continue.here = inside c.args.tree.now c.args.a longer _ c.extend-x.ensures
     c.requires.reach c.if-depth-eq0.false stays in
     let g = stays in
     let same = longer-same in
@@ -303,11 +301,11 @@ search_node-deepen-l-requires t c =
 pub search_node-walk-w-requires : goal.search_node-walk-w-requires
 search_node-walk-w-requires t c =
     let longer : Args = c.extend-x.result in
-    let stays : Stays longer c.in-Moves.here = enter_stays c.args.set c.args.tree.now c.args.words.now
+    let stays : Stays longer c.in-Continue.here = enter_stays c.args.set c.args.tree.now c.args.words.now
     c.poll-s.result longer _ _
-    (sym c.in-Moves.is ∙ c.enter-e.ensures) in
+    (sym c.in-Continue.is ∙ c.enter.ensures) in
     let longer-same : Same longer c.args.a = same_after c.args.tree.now c.args.a longer c.extend-x.ensures in
-    let here-inside : Inside c.args.tree.now c.in-Moves.here = inside c.args.tree.now c.args.a longer _ c.extend-x.ensures
+    let here-inside : Inside c.args.tree.now c.in-Continue.here = inside c.args.tree.now c.args.a longer _ c.extend-x.ensures
     c.requires.reach c.if-depth-eq0.false stays in
     let kept = c.deepen-l.auto in
     let g = stays in
@@ -326,10 +324,10 @@ search_node-finish-requires-clause-blocked t c =
 pub search_node-finish-requires-clause-node_bound : goal.search_node-finish-requires-clause-node_bound
 search_node-finish-requires-clause-node_bound t c =
     let longer : Args = c.extend-x.result in
-    let stays : Stays longer c.in-Moves.here = enter_stays c.args.set c.args.tree.now c.args.words.now
+    let stays : Stays longer c.in-Continue.here = enter_stays c.args.set c.args.tree.now c.args.words.now
     c.poll-s.result longer _ _
-    (sym c.in-Moves.is ∙ c.enter-e.ensures) in
-    let here-inside : Inside c.args.tree.now c.in-Moves.here = inside c.args.tree.now c.args.a longer _ c.extend-x.ensures
+    (sym c.in-Continue.is ∙ c.enter.ensures) in
+    let here-inside : Inside c.args.tree.now c.in-Continue.here = inside c.args.tree.now c.args.a longer _ c.extend-x.ensures
     c.requires.reach c.if-depth-eq0.false stays in
     let i = here-inside in
     i.in_tree
@@ -337,32 +335,32 @@ search_node-finish-requires-clause-node_bound t c =
 pub search_node-finish-requires-clause-in_bounds : goal.search_node-finish-requires-clause-in_bounds
 search_node-finish-requires-clause-in_bounds t c =
     let longer : Args = c.extend-x.result in
-    let stays : Stays longer c.in-Moves.here = enter_stays c.args.set c.args.tree.now c.args.words.now
+    let stays : Stays longer c.in-Continue.here = enter_stays c.args.set c.args.tree.now c.args.words.now
     c.poll-s.result longer _ _
-    (sym c.in-Moves.is ∙ c.enter-e.ensures) in
-    let here-inside : Inside c.args.tree.now c.in-Moves.here = inside c.args.tree.now c.args.a longer _ c.extend-x.ensures
+    (sym c.in-Continue.is ∙ c.enter.ensures) in
+    let here-inside : Inside c.args.tree.now c.in-Continue.here = inside c.args.tree.now c.args.a longer _ c.extend-x.ensures
     c.requires.reach c.if-depth-eq0.false stays in
     let set = c.args.set in
     let tree = c.args.tree.now in
     let r = c.requires.ready in
     let i = here-inside in
-    let low = level_low set tree r.accepted c.in-Moves.here.node in
+    let low = level_low set tree r.accepted c.in-Continue.here.node in
     let kept = c.deepen-l.auto in
     let kept2 = c.walk-w.auto in
     (omega (arith, kept.words, kept2.words, r.words_least), (i.depth_most, omega (arith, i.ply_most, low)))
 
-pub search_node-returns-in-Answer : goal.search_node-returns-in-Answer
-search_node-returns-in-Answer t c =
+pub search_node-returns-in-Break : goal.search_node-returns-in-Break
+search_node-returns-in-Break t c =
     λ k h. visit_answer k _ c.args.tree.now c.args.set c.args.st c.poll-s.result c.args.words.now c.args.history.now c.args.a
     h c.poll-s.ensures c.if-stop.false c.extend-x.result c.extend-x.ensures c.if-depth-eq0.false _
-    c.enter-e.ensures _ c.in-Answer.is
+    c.enter.ensures _ c.in-Break.is
 
-pub search_node-returns-in-Moves : goal.search_node-returns-in-Moves
-search_node-returns-in-Moves t c =
+pub search_node-returns-in-Continue : goal.search_node-returns-in-Continue
+search_node-returns-in-Continue t c =
     let longer : Args = c.extend-x.result in
-    let stays : Stays longer c.in-Moves.here = enter_stays c.args.set c.args.tree.now c.args.words.now
+    let stays : Stays longer c.in-Continue.here = enter_stays c.args.set c.args.tree.now c.args.words.now
     c.poll-s.result longer _ _
-    (sym c.in-Moves.is ∙ c.enter-e.ensures) in
+    (sym c.in-Continue.is ∙ c.enter.ensures) in
     let longer-same : Same longer c.args.a = same_after c.args.tree.now c.args.a longer c.extend-x.ensures in
     let longer-most : longer.depth ≤ c.args.a.depth + 1 = most_after c.args.tree.now c.args.a longer c.extend-x.ensures in
     let g = stays in
@@ -371,7 +369,7 @@ search_node-returns-in-Moves t c =
     λ k h. ap (λ x. beside x c.walk-w.new.history) c.finish.ensures
     ∙ visit_moves k _ c.args.tree.now c.args.set c.args.st c.poll-s.result c.args.words.now c.args.history.now c.args.a
     h c.poll-s.ensures c.if-stop.false (longer) c.extend-x.ensures
-    c.if-depth-eq0.false _ c.enter-e.ensures _ _ c.in-Moves.is
+    c.if-depth-eq0.false _ c.enter.ensures _ _ c.in-Continue.is
     (with c.deepen-l.result c.deepen-l.new.words c.deepen-l.new.history) (c.deepen-l.ensures (k - 1) (omega (arith, h, g.0, same.0, g.1.1.0, most)))
     (with c.walk-w.result c.walk-w.new.words c.walk-w.new.history) (c.walk-w.ensures (k - 1) (omega (arith, h, g.0, same.0)))
 
@@ -452,16 +450,9 @@ turn-futile-requires-clause-c_bound t c = c.requires.kid.in_tree
 
 pub turn-returns-then-futile : goal.turn-returns-then-futile
 turn-returns-then-futile t c =
-    let words = c.args.words.now in
-    let history = c.args.history.now in
     let tree = c.args.tree.now in
     let set = c.args.set in
-    let here = c.args.here in
-    let child = c.args.c in
-    let nth = c.args.i in
-    let loc = c.args.loc in
-    λ k h. ap (λ (x : Turn). with x words history) c.unfinished.ensures
-    ∙ turn_futile (visit_f k tree set) tree set here child nth loc c.counted-l.result words history
+    λ k h. turn_futile (visit_f k tree set) tree set c.args.here c.args.c c.args.i c.args.loc c.counted-l.result c.args.words.now c.args.history.now
     c.counted-l.ensures c.if-i-eq0.false (sym c.futile.ensures ∙ c.if-futile.true)
 
 pub turn-reduction-d-requires-clause-blocked : goal.turn-reduction-d-requires-clause-blocked
@@ -521,9 +512,6 @@ walk-hint_place-place-requires-clause-laid t c = laid c.args.set c.args.tree.now
 pub walk-hint_place-place-requires-clause-node_bound : goal.walk-hint_place-place-requires-clause-node_bound
 walk-hint_place-place-requires-clause-node_bound t c = c.requires.inside.in_tree
 
-pub walk-loop-i-init : goal.walk-loop-i-init
-walk-loop-i-init t c = (omega arith, (refl, (refl, λ k h. simp sub-zero)))
-
 pub walk-child-c-requires-clause-blocked : goal.walk-child-c-requires-clause-blocked
 walk-child-c-requires-clause-blocked t c = blocked c.args.set c.args.tree.now c.requires.ready.accepted
 
@@ -532,67 +520,56 @@ walk-child-c-requires-clause-k_bound t c = c.requires.inside.in_tree
 
 pub walk-child-c-requires-clause-i_bound : goal.walk-child-c-requires-clause-i_bound
 walk-child-c-requires-clause-i_bound t c =
-    let nth-child : ℕ → ℕ = λ j. child_of c.args.tree.now c.args.here.node c.hint_place-place.result j in
-    let walk-kid : (j : ℕ) → j < c.child_count-n.result → Kid c.args.tree.now c.args.here.node (nth-child j) = λ j lt. kid_at c.args.set c.args.tree.now c.requires.ready.accepted c.args.here c.args.loc _
-    c.hint_place-place.ensures c.requires.inside.in_tree j (omega (arith, lt, c.child_count-n.ensures)) in
-    let g = walk-kid c.loop-i.i (omega (arith, c.loop-i-test.true)) in
-    g.in_tree
+    (kid_at c.args.set c.args.tree.now c.requires.ready.accepted c.args.here c.args.loc _ c.hint_place-place.ensures c.requires.inside.in_tree c.loop-i.i
+    (omega (arith, c.loop-i-test.true, c.child_count-n.ensures))).in_tree
 
-pub walk-turn-t-requires : goal.walk-turn-t-requires
-walk-turn-t-requires t c =
-    let nth-child : ℕ → ℕ = λ j. child_of c.args.tree.now c.args.here.node c.hint_place-place.result j in
-    let walk-kid : (j : ℕ) → j < c.child_count-n.result → Kid c.args.tree.now c.args.here.node (nth-child j) = λ j lt. kid_at c.args.set c.args.tree.now c.requires.ready.accepted c.args.here c.args.loc _
-    c.hint_place-place.ensures c.requires.inside.in_tree j (omega (arith, lt, c.child_count-n.ensures)) in
+pub walk-turn-requires : goal.walk-turn-requires
+walk-turn-requires t c =
     let set = c.args.set in
     let tree = c.args.tree.now in
     let here = c.args.here in
     let ok = c.requires.ready.accepted in
-    let taken = c.loop-i-test.true in
     let inv = c.loop-i.invariant in
-    let g = subst (Kid tree here.node) (sym c.child-c.ensures) (walk-kid c.loop-i.i (omega (arith, taken))) in
-    let most = count_most set.inf set.max_ply tree ok here.node c.requires.inside.in_tree in
-    let few : c.loop-i.i < 63 = omega (arith, taken, c.child_count-n.ensures, most) in
-    (omega (arith, c.decreases), (still_ready set tree _ _ _ _ c.requires.ready inv.1.0 inv.1.1.0, (c.requires.inside, (g, few))))
+    let lt : c.loop-i.i < count_of tree here.node = omega (arith, c.loop-i-test.true, c.child_count-n.ensures) in
+    let g = subst (Kid tree here.node) (sym c.child-c.ensures)
+    (kid_at set tree ok here c.args.loc _ c.hint_place-place.ensures c.requires.inside.in_tree c.loop-i.i lt) in
+    let few : c.loop-i.i < 63 = omega (arith, lt, count_most set.inf set.max_ply tree ok here.node c.requires.inside.in_tree) in
+    (omega (arith, c.decreases), (still_ready set tree _ _ _ _ c.requires.ready inv.0 inv.1.0, (c.requires.inside, (g, few))))
 
 pub walk-cutoff-requires : goal.walk-cutoff-requires
 walk-cutoff-requires t c =
-    let nth-child : ℕ → ℕ = λ j. child_of c.args.tree.now c.args.here.node c.hint_place-place.result j in
-    let walk-kid : (j : ℕ) → j < c.child_count-n.result → Kid c.args.tree.now c.args.here.node (nth-child j) = λ j lt. kid_at c.args.set c.args.tree.now c.requires.ready.accepted c.args.here c.args.loc _
-    c.hint_place-place.ensures c.requires.inside.in_tree j (omega (arith, lt, c.child_count-n.ensures)) in
     let tree = c.args.tree.now in
     let here = c.args.here in
-    let taken = c.loop-i-test.true in
-    let kept = c.turn-t.auto in
+    let kept = c.turn.auto in
     let inv = c.loop-i.invariant in
     let r = c.requires.ready in
     let i = c.requires.inside in
-    let g = subst (Kid tree here.node) (sym c.child-c.ensures) (walk-kid c.loop-i.i (omega (arith, taken))) in
-    let history = kept.history ∙ inv.1.1.0 ∙ r.history_length in
+    let nth : (j : ℕ) → j < c.child_count-n.result → Kid tree here.node (child_of tree here.node c.hint_place-place.result j) = λ j lt. kid_at c.args.set tree r.accepted here c.args.loc _
+    c.hint_place-place.ensures i.in_tree j (omega (arith, lt, c.child_count-n.ensures)) in
+    let taken = c.loop-i-test.true in
+    let g = subst (Kid tree here.node) (sym c.child-c.ensures) (nth c.loop-i.i taken) in
     record {
       blocked = blocked c.args.set tree r.accepted;
       node_bound = i.in_tree;
       c_bound = g.in_tree;
-      by_index = λ j lt. (walk-kid j (omega (arith, lt, taken))).in_tree;
-      in_bounds = (omega (arith, kept.words, inv.1.0, r.words_least), (history, (i.side_most, (i.depth_most, r.hh_above))));
+      by_index = λ j lt. (nth j (omega (arith, lt, taken))).in_tree;
+      in_bounds = (omega (arith, kept.words, inv.0, r.words_least), (kept.history ∙ inv.1.0 ∙ r.history_length, (i.side_most, (i.depth_most, r.hh_above))));
     }
 
-pub walk-returns-then-done : goal.walk-returns-then-done
-walk-returns-then-done t c =
+pub walk-returns-in-Break : goal.walk-returns-in-Break
+walk-returns-in-Break t c =
     let tree = c.args.tree.now in
     let set = c.args.set in
     let here = c.args.here in
-    let words = c.turn-t.new.words in
-    let history = c.turn-t.new.history in
-    let taken = c.loop-i-test.true in
-    λ k h. c.cutoff.ensures
-    ∙ ap₂ (λ (x : ℕ) (y : Loc). cutoff_of tree set here c.hint_place-place.result x c.loop-i.i y words history) c.child-c.ensures c.goes_on-l.ensures
-    ∙ sym (walk_cut (visit_f k tree set) tree set here c.hint_place-place.result c.child_count-n.result c.loop-i.i c.loop-i.l c.loop-i.words c.loop-i.history
-    (with c.turn-t.result words history) taken
-    (c.turn-t.ensures k h ∙ ap (λ (x : ℕ). turn_f (visit_f k tree set) tree set here x c.loop-i.i c.loop-i.l c.loop-i.words c.loop-i.history) c.child-c.ensures)
-    c.if-done.true)
-    ∙ c.loop-i.invariant.1.1.1 k h
-    ∙ ap₂ (λ (x : Option ℕ) (y : ℕ). walk_f (visit_f k tree set) tree set here x y 0 c.args.loc c.args.words.now c.args.history.now)
-    c.hint_place-place.ensures c.child_count-n.ensures
+    let place = c.hint_place-place.result in
+    λ k h. ap cut_of c.cutoff.ensures
+    ∙ ap₂ (λ x y. cut_of (cutoff_of tree set here place x c.loop-i.i y c.turn.new.words c.turn.new.history)) c.child-c.ensures c.goes_on-cut.ensures
+    ∙ sym (walk_cut (visit_f k tree set) tree set here place c.child_count-n.result c.loop-i.i c.loop-i.l c.loop-i.words c.loop-i.history
+    (with c.turn.result c.turn.new.words c.turn.new.history) c.loop-i-test.true
+    (c.turn.ensures k h ∙ ap (λ x. turn_f (visit_f k tree set) tree set here x c.loop-i.i c.loop-i.l c.loop-i.words c.loop-i.history) c.child-c.ensures)
+    _ c.in-Break.is)
+    ∙ c.loop-i.invariant.1.1 k h
+    ∙ ap₂ (λ x y. walk_f (visit_f k tree set) tree set here x y 0 c.args.loc c.args.words.now c.args.history.now) c.hint_place-place.ensures c.child_count-n.ensures
 
 pub walk-loop-i-preserved : goal.walk-loop-i-preserved
 walk-loop-i-preserved t c =
@@ -601,21 +578,17 @@ walk-loop-i-preserved t c =
     let here = c.args.here in
     let place = c.hint_place-place.result in
     let n = c.child_count-n.result in
-    let words = c.turn-t.new.words in
-    let history = c.turn-t.new.history in
-    let taken = c.loop-i-test.true in (
-      omega (arith, taken),
+    let words = c.turn.new.words in
+    let history = c.turn.new.history in (
+      c.turn.auto.words ∙ c.loop-i.invariant.0,
       (
-        c.turn-t.auto.words ∙ c.loop-i.invariant.1.0,
-        (
-          c.turn-t.auto.history ∙ c.loop-i.invariant.1.1.0,
-          λ k h. ap (λ (x : Loc). walk_f (visit_f k tree set) tree set here place (n - (c.loop-i.i + 1)) (c.loop-i.i + 1) x words history) c.goes_on-l.ensures
-              ∙ sym (walk_next (visit_f k tree set) tree set here place n c.loop-i.i c.loop-i.l c.loop-i.words c.loop-i.history
-              (with c.turn-t.result words history) taken
-              (c.turn-t.ensures k h ∙ ap (λ (x : ℕ). turn_f (visit_f k tree set) tree set here x c.loop-i.i c.loop-i.l c.loop-i.words c.loop-i.history) c.child-c.ensures)
-              c.if-done.false)
-              ∙ c.loop-i.invariant.1.1.1 k h,
-        ),
+        c.turn.auto.history ∙ c.loop-i.invariant.1.0,
+        λ k h. ap (λ x. walk_f (visit_f k tree set) tree set here place (n - (c.loop-i.i + 1)) (c.loop-i.i + 1) x words history) c.goes_on-l.ensures
+            ∙ sym (walk_next (visit_f k tree set) tree set here place n c.loop-i.i c.loop-i.l c.loop-i.words c.loop-i.history
+            (with c.turn.result words history) c.loop-i-test.true
+            (c.turn.ensures k h ∙ ap (λ x. turn_f (visit_f k tree set) tree set here x c.loop-i.i c.loop-i.l c.loop-i.words c.loop-i.history) c.child-c.ensures)
+            _ c.in-Continue.is)
+            ∙ c.loop-i.invariant.1.1 k h,
       ),
     )
 
@@ -624,12 +597,10 @@ walk-returns t c =
     let tree = c.args.tree.now in
     let set = c.args.set in
     let here = c.args.here in
-    λ k h. ap (λ (x : Turn). with x c.loop-i.words c.loop-i.history) c.unfinished.ensures
-    ∙ sym (walk_over (visit_f k tree set) tree set here c.hint_place-place.result c.child_count-n.result c.loop-i.i c.loop-i.l c.loop-i.words c.loop-i.history
+    λ k h. sym (walk_over (visit_f k tree set) tree set here c.hint_place-place.result c.child_count-n.result c.loop-i.i c.loop-i.l c.loop-i.words c.loop-i.history
     c.loop-i-test.false)
-    ∙ c.loop-i.invariant.1.1.1 k h
-    ∙ ap₂ (λ (x : Option ℕ) (y : ℕ). walk_f (visit_f k tree set) tree set here x y 0 c.args.loc c.args.words.now c.args.history.now)
-    c.hint_place-place.ensures c.child_count-n.ensures
+    ∙ c.loop-i.invariant.1.1 k h
+    ∙ ap₂ (λ x y. walk_f (visit_f k tree set) tree set here x y 0 c.args.loc c.args.words.now c.args.history.now) c.hint_place-place.ensures c.child_count-n.ensures
 
 pub widened-full-requires-clause-side_bound : goal.widened-full-requires-clause-side_bound
 widened-full-requires-clause-side_bound t c =

@@ -24,8 +24,5 @@ abbrev pub decreases-widened : goal.decreases-widened
 decreases-widened l = 8 * ((nodes_of l.tree.now - l.here.node) * 64)
 
 abbrev pub invariant-walk-loop-i : goal.invariant-walk-loop-i
-invariant-walk-loop-i l = (l.i ≤ l.n) × ((length l.words ≡ length l.initial.words) × ((length l.history ≡ length l.initial.history) × ((j : ℕ) → need l.tree l.here.node 0 ≤ j →
-    walk_f (visit_f j l.tree l.set) l.tree l.set l.here l.place (l.n - l.i) l.i l.l l.words l.history ≡ walk_f (visit_f j l.tree l.set) l.tree l.set l.here l.place l.n 0 l.initial.l l.initial.words l.initial.history)))
-
-abbrev pub decreases-walk-loop-i : goal.decreases-walk-loop-i
-decreases-walk-loop-i l = l.n - l.i
+invariant-walk-loop-i l = (length l.words ≡ length l.initial.words) × ((length l.history ≡ length l.initial.history) × ((j : ℕ) → need l.tree l.here.node 0 ≤ j →
+    walk_f (visit_f j l.tree l.set) l.tree l.set l.here l.place (l.n - l.i) l.i l.l l.words l.history ≡ walk_f (visit_f j l.tree l.set) l.tree l.set l.here l.place l.n 0 l.initial.l l.initial.words l.initial.history))
