@@ -22,7 +22,8 @@ module _ (v : Visit) (t : List ℕ) (set : Settings) (end depth : ℕ) (d : Dept
 
   module _ (last : Depths) (words' : List ℕ) (hist' : List ℤ) where
     -- so does a depth without a move
-    pub depths_over : (r : Deepened) → depth < end → mated_of set d depth ≡ false → with r words' hist' ≡ depth_f v t set depth (with d words hist) → r ≡ Break last
+    pub depths_over : (r : Deepened) → depth < end → mated_of set d depth ≡ false
+        → with r words' hist' ≡ depth_f v t set depth (with d words hist) → r ≡ Break last
         → with last words' hist' ≡ depths_f v t set (end - depth) depth (with d words hist)
     unfolding mate_if over_if
     depths_over r lt e er eb = sym (step lt ∙ rw (e, ← er, eb))

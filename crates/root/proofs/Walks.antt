@@ -14,12 +14,14 @@ use Rattle.root.specs.Root.{turn_f, stop_if, polled_f, walk_f}
 use Rattle.root.proofs.Asked.{root_in, root_kid}
 
 module _ (v : Visit) (t : List ℕ) (set : Settings) (depth : ℕ) (p : Option ℕ) (n i : ℕ) (w : Walked) (words : List ℕ) (hist : List ℤ) where
-  step : i < n → walk_f v t set depth p (n - i) i (with w words hist) ≡ polled_f v t set depth (polled_of set w) (child_of t 0 p i) words hist (walk_f v t set depth p (n - (i + 1)) (i + 1))
+  step : i < n → walk_f v t set depth p (n - i) i (with w words hist)
+      ≡ polled_f v t set depth (polled_of set w) (child_of t 0 p i) words hist (walk_f v t set depth p (n - (i + 1)) (i + 1))
   unfolding walk_f
   step lt = let m : n - i ≡ suc (n - (i + 1)) = omega arith in ap (λ (m : ℕ). walk_f v t set depth p m i (with w words hist)) m
 
   -- a poll that stops ends it
-  pub walk_stopped : i < n → (polled_of set w).state.stop ≡ true → walk_f v t set depth p (n - i) i (with w words hist) ≡ with (polled_of set w) words hist
+  pub walk_stopped : i < n → (polled_of set w).state.stop ≡ true
+      → walk_f v t set depth p (n - i) i (with w words hist) ≡ with (polled_of set w) words hist
   unfolding stop_if
   walk_stopped lt e = step lt ∙ rw e
 
