@@ -1,5 +1,6 @@
 -- The root search: depths from start to end - 1, each a walk over the root's moves. Assumes nothing.
 use Rattle.std.specs.Prelude.{Bool, true, false, List, ℕ, zero, suc, ◌+◌, ◌-◌, ℤ}
+use Rattle.std.specs.declared.ops.ControlFlow.TheVariants.{Continue, Break}
 use Rattle.table.specs.declared.Stats.{Stats}
 use Rattle.history.specs.Entries.{clear_of}
 use Rattle.record.specs.Node.{count_of}
@@ -13,7 +14,7 @@ use Rattle.visits.specs.Search.{Visit, node_search}
 use Rattle.root_steps.specs.declared.Best.{Best}
 use Rattle.root_steps.specs.declared.Depths.{Depths}
 use Rattle.root_steps.specs.declared.Walked.{Walked}
-use Rattle.root_steps.specs.Step.{fresh_of, mated_of, begin_of, place_root, polled_of, counted_of, down_of, judge_of, saved_of}
+use Rattle.root_steps.specs.Step.{Deepened, fresh_of, mated_of, begin_of, place_root, polled_of, counted_of, down_of, judge_of, saved_of}
 
 abbrev pub judged : List ℕ → Walked → ℕ → With Out → With Walked
 judged t w c r = with (judge_of t w c r.it) r.words r.history
@@ -39,19 +40,20 @@ walk_f v t set depth p (suc n) i w =
 abbrev pub walk_all : Visit → List ℕ → Settings → Best → ℕ → State → List ℕ → List ℤ → With Walked
 walk_all v t set b depth s words hist = walk_f v t set depth (place_root t b) (count_of t 0) 0 (with (begin_of set s) words hist)
 
-abbrev pub saved_f : List ℕ → Settings → Depths → ℕ → With Walked → With Depths
+abbrev pub saved_f : List ℕ → Settings → Depths → ℕ → With Walked → With Deepened
 saved_f t set d depth w = beside (saved_of t set d depth w.it w.words) w.history
 
 -- one depth: the walk, then what is saved of it
-unfoldable pub depth_f : Visit → List ℕ → Settings → ℕ → With Depths → With Depths
+unfoldable pub depth_f : Visit → List ℕ → Settings → ℕ → With Depths → With Deepened
 depth_f v t set depth d = saved_f t set d.it depth (walk_all v t set d.it.best depth d.it.state d.words d.history)
 
-unfoldable pub over_if : Bool → With Depths → (With Depths → With Depths) → With Depths
-over_if true d go = d
-over_if false d go = go d
+-- what is left of the depths after one: nothing where no move was made
+unfoldable pub over_if : Deepened → List ℕ → List ℤ → (With Depths → With Depths) → With Depths
+over_if (Break d) words hist go = with d words hist
+over_if (Continue d) words hist go = go (with d words hist)
 
-abbrev pub over_f : With Depths → (With Depths → With Depths) → With Depths
-over_f d go = over_if d.it.over d go
+abbrev pub over_f : With Deepened → (With Depths → With Depths) → With Depths
+over_f d go = over_if d.it d.words d.history go
 
 -- 000: "if is_mate { break; }"
 unfoldable pub mate_if : Bool → Visit → List ℕ → Settings → ℕ → With Depths → (With Depths → With Depths) → With Depths

@@ -9,11 +9,13 @@ ghost use Rattle.visits.specs.Search.{node_search};
 ghost use Rattle.root.specs.Root.{turn_f, walk_all, depth_f, depths_f, root_search};
 
 use record::node;
-use root_steps::{Best, Depths, Walked};
+use root_steps::{Best, Deepened, Depths, Walked};
 use state::{Settings, State};
+use std::ops::ControlFlow;
 use table::Stats;
 
 // One root move, which leads to c.
+#[tactic(auto, using(moves::proofs::Kids::blocked, visits::proofs::Asked::enough, crate::proofs::Asked::to_move))]
 fn root_turn(
     tree: &[u8],
     words: &mut [u64],
@@ -42,6 +44,7 @@ fn root_turn(
 }
 
 // The moves of the root at one depth, the saved one first; each is preceded by a poll.
+#[tactic(auto, using(crate::proofs::Walks::walk_rules))]
 fn root_walk(
     tree: &[u8],
     words: &mut [u64],
@@ -71,6 +74,7 @@ fn root_walk(
 }
 
 // One depth: the walk, then what is saved of it.
+#[tactic(auto, using(moves::proofs::Kids::blocked, crate::proofs::Asked::root_in), unfolding(crate::specs::Root::depth_f))]
 fn root_depth(
     tree: &[u8],
     words: &mut [u64],
@@ -78,19 +82,18 @@ fn root_depth(
     set: Settings,
     d: Depths,
     depth: u8,
-) -> Depths
+) -> Deepened
     requires ready { Ready set tree.now words.old history.old }
     requires side_bound { (set.side ≤ 1) × ((1 ≤ depth) × (depth ≤ 31)) }
     ensures { with result words.new history.new ≡
         depth_f (node_search tree.now set) tree.now set depth (with d words.old history.old) }
 {
-    let best = d.best;
-    let st = d.state;
-    let w = root_walk(tree, words, history, set, best, depth, st);
+    let w = root_walk(tree, words, history, set, d.best, depth, d.state);
     root_steps::saved(tree, words, set, d, depth, w)
 }
 
 // The depths from start to end - 1, until the scores are those of a mate or no move was made.
+#[tactic(auto, using(crate::proofs::Depths::depths_rules))]
 fn deepening(
     tree: &[u8],
     words: &mut [u64],
@@ -110,15 +113,16 @@ fn deepening(
         if root_steps::mated(set, d, depth) {
             return d;
         }
-        d = root_depth(tree, words, history, set, d, depth);
-        if d.over {
-            return d;
+        match root_depth(tree, words, history, set, d, depth) {
+            ControlFlow::Continue(next) => d = next,
+            ControlFlow::Break(last) => return last,
         }
     }
     d
 }
 
 // History zeroed, age and counters reset if the table is on; then the depths.
+#[tactic(auto, using(visits::proofs::Asked::still_ready), unfolding(crate::specs::Root::root_search))]
 pub fn search_root(
     tree: &[u8],
     words: &mut [u64],

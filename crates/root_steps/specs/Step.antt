@@ -1,6 +1,8 @@
 -- The steps of a root search that visit no node, in the order of 000. Assumes nothing.
-use Rattle.std.specs.Prelude.{Bool, true, false, not, ◌&&◌, ◌||◌, List, ℕ, ◌-◌, eqb, ltb, ℤ, pos, neg_ℤ, ◌-ℤ◌}
+use Rattle.std.specs.Prelude.{Bool, true, false, ◌&&◌, ◌||◌, List, ℕ, ◌-◌, eqb, ltb, ℤ, pos, neg_ℤ, ◌-ℤ◌}
 use Rattle.std.specs.Int.Signed.{lt_z, le_z}
+use Rattle.std.specs.declared.ops.ControlFlow.{ControlFlow}
+use Rattle.std.specs.declared.ops.ControlFlow.TheVariants.{Continue, Break}
 use Rattle.score.specs.Wrap.{neg16}
 use Rattle.transposition.specs.declared.Bound.TheVariants.{Exact}
 use Rattle.table.specs.declared.Stats.{Stats}
@@ -30,7 +32,6 @@ fresh_of set c =
       one = pos 0;
       two = pos 0;
       three = pos 0;
-      over = false;
       state = record { nodes = 0; stop = false; stats = fresh_stats set.table c };
     }
 
@@ -80,33 +81,41 @@ score_if false x = x
 abbrev pub score_of : Walked → ℤ
 score_of w = score_if (eqb w.mv 0) w.alpha
 
--- 000: "if !has_legal_moves { break }"
-abbrev pub shifted_of : Depths → Walked → Best → State → Depths
-shifted_of d w b s = record { best = b; one = score_of w; two = d.one; three = d.two; over = not w.any; state = s }
+-- what a depth leaves: a break where no move was made
+abbrev pub Deepened : Type 0
+Deepened = ControlFlow Depths Depths
 
-abbrev pub kept_by : Depths → ℕ → Walked → Over State → Over Depths
+-- 000: "if !has_legal_moves { break }"
+unfoldable pub any_if : Bool → Depths → Deepened
+any_if true d = Continue d
+any_if false d = Break d
+
+abbrev pub shifted_of : Depths → Walked → Best → State → Deepened
+shifted_of d w b s = any_if w.any (record { best = b; one = score_of w; two = d.one; three = d.two; state = s })
+
+abbrev pub kept_by : Depths → ℕ → Walked → Over State → Over Deepened
 kept_by d depth w k = over (shifted_of d w (record { score = w.alpha; mv = w.mv; depth = depth }) k.it) k.words
 
 -- 000: "self.tt.set(hash, depth, best_score, best_move, Bound::Exact)"
-unfoldable pub kept_of : List ℕ → Settings → Depths → ℕ → Walked → State → List ℕ → Over Depths
+unfoldable pub kept_of : List ℕ → Settings → Depths → ℕ → Walked → State → List ℕ → Over Deepened
 kept_of t set d depth w s words = kept_by d depth w (keep_of set.table words s (hash_of t 0) (pos depth) w.alpha w.mv Exact)
 
-unfoldable pub stopped_if : Bool → List ℕ → Settings → Depths → ℕ → Walked → State → List ℕ → Over Depths
+unfoldable pub stopped_if : Bool → List ℕ → Settings → Depths → ℕ → Walked → State → List ℕ → Over Deepened
 stopped_if true t set d depth w s words = over (shifted_of d w d.best s) words
 stopped_if false t set d depth w s words = kept_of t set d depth w s words
 
-abbrev pub unless_stopped : List ℕ → Settings → Depths → ℕ → Walked → State → List ℕ → Over Depths
+abbrev pub unless_stopped : List ℕ → Settings → Depths → ℕ → Walked → State → List ℕ → Over Deepened
 unless_stopped t set d depth w s words = stopped_if s.stop t set d depth w s words
 
 -- 01, Errors that look right: "Root values of an unfinished depth kept (only depth 1 may be)"
-unfoldable pub first_if : Bool → List ℕ → Settings → Depths → ℕ → Walked → List ℕ → Over Depths
+unfoldable pub first_if : Bool → List ℕ → Settings → Depths → ℕ → Walked → List ℕ → Over Deepened
 first_if true t set d depth w words = kept_of t set d depth w w.state words
 first_if false t set d depth w words = unless_stopped t set d depth w (poll_of set.limit w.state) words
 
 -- 000: "!best_moves[depth].is_null() && (depth == 1 || !self.clock.poll(self.nodes_count))"
-unfoldable pub saved_if : Bool → List ℕ → Settings → Depths → ℕ → Walked → List ℕ → Over Depths
+unfoldable pub saved_if : Bool → List ℕ → Settings → Depths → ℕ → Walked → List ℕ → Over Deepened
 saved_if true t set d depth w words = over (shifted_of d w d.best w.state) words
 saved_if false t set d depth w words = first_if (eqb depth 1) t set d depth w words
 
-abbrev pub saved_of : List ℕ → Settings → Depths → ℕ → Walked → List ℕ → Over Depths
+abbrev pub saved_of : List ℕ → Settings → Depths → ℕ → Walked → List ℕ → Over Deepened
 saved_of t set d depth w words = saved_if (eqb w.mv 0) t set d depth w words

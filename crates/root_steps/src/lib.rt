@@ -11,6 +11,7 @@ use carry::Args;
 use record::node;
 use score::neg16;
 use state::{Out, Settings, State};
+use std::ops::ControlFlow;
 use table::Stats;
 use transposition::Bound;
 
@@ -22,16 +23,18 @@ pub struct Best {
     pub depth: u8,
 }
 
-// What the depths leave: the last saved, the best scores of the three depths before, whether the search is over, the state.
+// What the depths leave: the last saved, the best scores of the three depths before, the state.
 #[derive(Clone, Copy)]
 pub struct Depths {
     pub best: Best,
     pub one: i16,
     pub two: i16,
     pub three: i16,
-    pub over: bool,
     pub state: State,
 }
+
+// What a depth leaves: a break where no move was made, since the search is over then.
+pub type Deepened = ControlFlow<Depths, Depths>;
 
 // What a walk over the root's moves leaves: whether a move was made, the best score and its move (0: none), the state.
 #[derive(Clone, Copy)]
@@ -43,81 +46,66 @@ pub struct Walked {
 }
 
 // Age and counters reset, if the table switch is on.
+#[tactic(auto, unfolding(crate::specs::Step::fresh_stats))]
 fn fresh_stats(set: Settings, stats: Stats) -> Stats
     ensures { result ≡ fresh_stats set.table stats }
 {
-    if set.table {
-        return stats.reset();
-    }
-    stats
+    if set.table { stats.reset() } else { stats }
 }
 
 // Nothing saved, no node counted, no stop.
 pub fn fresh(set: Settings, stats: Stats) -> Depths
     ensures { result ≡ fresh_of set stats }
 {
-    let c = fresh_stats(set, stats);
-    let s = State {
-        nodes: 0,
-        stop: false,
-        stats: c,
-    };
-    let b = Best {
-        score: 0,
-        mv: 0,
-        depth: 0,
-    };
     Depths {
-        best: b,
+        best: Best {
+            score: 0,
+            mv: 0,
+            depth: 0,
+        },
         one: 0,
         two: 0,
         three: 0,
-        over: false,
-        state: s,
+        state: State {
+            nodes: 0,
+            stop: false,
+            stats: fresh_stats(set, stats),
+        },
     }
 }
 
 // Whether a score is one of a mate: not strictly inside plus and minus (INF - MAX_PLY).
+#[tactic(auto, using(std::proofs::lemmas::Int::ints), unfolding(crate::specs::Step::mate_of))]
 fn mate(set: Settings, score: i16) -> bool
     ensures { result ≡ mate_of set score }
 {
-    let most = set.inf as i32 - set.max_ply as i32;
-    let s = score as i32;
-    if s <= -most {
-        return true;
-    }
-    most <= s
+    let line = i32::from(set.inf) - i32::from(set.max_ply);
+    let score = i32::from(score);
+    score <= -line || line <= score
 }
 
 // Above depth 6: the score was one of a mate at the three depths before.
+#[tactic(auto, unfolding(crate::specs::Step::mated_of))]
 pub fn mated(set: Settings, d: Depths, depth: u8) -> bool
     ensures { result ≡ mated_of set d depth }
 {
-    if depth <= 6 {
-        return false;
-    }
-    if mate(set, d.one) {
-        if mate(set, d.two) {
-            return mate(set, d.three);
-        }
-        return false;
-    }
-    false
+    6 < depth && mate(set, d.one) && mate(set, d.two) && mate(set, d.three)
 }
 
 // Alpha is -INF, and no move was made.
-pub fn begin(set: Settings, st: State) -> Walked
-    ensures { result ≡ begin_of set st }
+pub fn begin(set: Settings, state: State) -> Walked
+    ensures { result ≡ begin_of set state }
 {
     Walked {
         any: false,
         alpha: neg16(set.inf),
         mv: 0,
-        state: st,
+        state,
     }
 }
 
 // The place of the move saved before.
+#[tactic(auto, using(tree::proofs::Blocked::record_in, moves::proofs::Kids::kids_within), unfolding(crate::specs::Step::place_root))]
 pub fn place_of(tree: &[u8], best: Best) -> Option<usize>
     requires laid { Laid tree.now }
     requires tree_nonzero { 0 < nodes_of tree.now }
@@ -131,13 +119,9 @@ pub fn place_of(tree: &[u8], best: Best) -> Option<usize>
 pub fn polled(set: Settings, w: Walked) -> Walked
     ensures { result ≡ polled_of set w }
 {
-    let st = w.state;
-    let s = st.poll(set.limit);
     Walked {
-        any: w.any,
-        alpha: w.alpha,
-        mv: w.mv,
-        state: s,
+        state: w.state.poll(set.limit),
+        ..w
     }
 }
 
@@ -145,8 +129,7 @@ pub fn polled(set: Settings, w: Walked) -> Walked
 pub fn counted(w: Walked) -> State
     ensures { result ≡ counted_of w }
 {
-    let s = w.state;
-    s.count_node()
+    w.state.count_node()
 }
 
 // A root move's visit: the window between -INF and what the moves before it left, ply 1.
@@ -166,55 +149,58 @@ pub fn down(set: Settings, depth: u8, w: Walked, c: usize) -> Args
 }
 
 // What a root move's answer makes of the walk.
+#[tactic(auto, using(tree::proofs::Blocked::record_in), unfolding(crate::specs::Step::judge_of, crate::specs::Step::raise_if))]
 pub fn judge(tree: &[u8], w: Walked, c: usize, r: Out) -> Walked
     requires blocked { Blocked tree.now }
     requires c_bound { c < nodes_of tree.now }
     ensures { result ≡ judge_of tree.now w c r }
 {
     let score = neg16(r.score);
-    let s = r.state;
+    let state = r.state;
     if w.alpha < score {
-        let mv = node::move_to(tree, c);
         return Walked {
             any: true,
             alpha: score,
-            mv: mv,
-            state: s,
+            mv: node::move_to(tree, c),
+            state,
         };
     }
     Walked {
         any: true,
-        alpha: w.alpha,
-        mv: w.mv,
-        state: s,
+        state,
+        ..w
     }
 }
 
 // The best score of a depth, 0 where nothing beat -INF.
+#[tactic(auto, unfolding(crate::specs::Step::score_if))]
 fn score_of(w: Walked) -> i16
     ensures { result ≡ score_of w }
 {
-    if w.mv == 0 {
-        return 0;
-    }
-    w.alpha
+    if w.mv == 0 { 0 } else { w.alpha }
 }
 
-// One depth on.
-fn shifted(d: Depths, w: Walked, best: Best, s: State) -> Depths
-    ensures { result ≡ shifted_of d w best s }
+// One depth on, unless no move was made.
+#[tactic(auto, unfolding(crate::specs::Step::any_if))]
+fn shifted(d: Depths, w: Walked, best: Best, state: State) -> Deepened
+    ensures { result ≡ shifted_of d w best state }
 {
-    Depths {
-        best: best,
+    let next = Depths {
+        best,
         one: score_of(w),
         two: d.one,
         three: d.two,
-        over: !w.any,
-        state: s,
+        state,
+    };
+    if w.any {
+        ControlFlow::Continue(next)
+    } else {
+        ControlFlow::Break(next)
     }
 }
 
 // The best move of a depth is saved, and stored under the root's hash, Exact.
+#[tactic(auto, using(tree::proofs::Blocked::record_in), unfolding(crate::specs::Step::kept_of))]
 fn keep_best(
     tree: &[u8],
     words: &mut [u64],
@@ -223,14 +209,14 @@ fn keep_best(
     depth: u8,
     w: Walked,
     s: State,
-) -> Depths
+) -> Deepened
     requires blocked { Blocked tree.now }
     requires tree_nonzero { 0 < nodes_of tree.now }
     requires in_bounds { (2 ≤ length words.old) × (depth ≤ 31) }
     ensures { over result words.new ≡ kept_of tree.now set d depth w s words.old }
 {
     let hash = node::hash(tree, 0);
-    let after = s.keep(
+    let state = s.keep(
         words,
         set.table,
         hash,
@@ -239,15 +225,16 @@ fn keep_best(
         w.mv,
         Bound::Exact,
     );
-    let b = Best {
+    let best = Best {
         score: w.alpha,
         mv: w.mv,
-        depth: depth,
+        depth,
     };
-    shifted(d, w, b, after)
+    shifted(d, w, best, state)
 }
 
 // A depth's best move is saved: always at depth 1, later only where the search was not stopped.
+#[tactic(auto, unfolding(crate::specs::Step::saved_if, crate::specs::Step::first_if, crate::specs::Step::stopped_if))]
 pub fn saved(
     tree: &[u8],
     words: &mut [u64],
@@ -255,23 +242,21 @@ pub fn saved(
     d: Depths,
     depth: u8,
     w: Walked,
-) -> Depths
+) -> Deepened
     requires blocked { Blocked tree.now }
     requires tree_nonzero { 0 < nodes_of tree.now }
     requires in_bounds { (2 ≤ length words.old) × (depth ≤ 31) }
     ensures { over result words.new ≡ saved_of tree.now set d depth w words.old }
 {
-    let best = d.best;
-    let st = w.state;
     if w.mv == 0 {
-        return shifted(d, w, best, st);
+        return shifted(d, w, d.best, w.state);
     }
     if depth == 1 {
-        return keep_best(tree, words, set, d, depth, w, st);
+        return keep_best(tree, words, set, d, depth, w, w.state);
     }
-    let s = st.poll(set.limit);
+    let s = w.state.poll(set.limit);
     if s.stop {
-        return shifted(d, w, best, s);
+        return shifted(d, w, d.best, s);
     }
     keep_best(tree, words, set, d, depth, w, s)
 }

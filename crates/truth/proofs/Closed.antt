@@ -1,16 +1,23 @@
 -- Statements of a search's state that its steps keep: a poll, a count, a change of age and counters, and so a lookup and a store.
--- The first: a stop stays. Assumes nothing.
+-- The first: a stop stays. What a turn left, whether it cut or not. Assumes nothing.
 use mathlib.Core.Path.{◌≡◌, refl, sym, ◌∙◌}
 use mathlib.Core.Bool.{Bool, true, false, ◌||◌, true≢false}
 use mathlib.Core.List.{List}
 use Prim.Native.Nat.{ℕ}
 use lib.Dec.{leb}
 use lib.IntN.{ℤ}
+use Rattle.std.specs.declared.ops.ControlFlow.{ControlFlow}
+use Rattle.std.specs.declared.ops.ControlFlow.TheVariants.{Continue, Break}
 use Rattle.transposition.specs.declared.Bound.{Bound}
 use Rattle.table.specs.declared.Stats.{Stats}
 use Rattle.state.specs.declared.Settings.{Settings}
 use Rattle.state.specs.declared.State.{State}
 use Rattle.state.specs.State.{poll_of, count_node, with_stats, seen_of, keep_of}
+
+-- what a turn left, whether it cut or not
+abbrev pub left : {A : Type 0} → ControlFlow A A → A
+left (Break l) = l
+left (Continue l) = l
 
 -- the statement Q is kept by a poll, a count, and a change of age and counters
 pub record Closed (set : Settings) (Q : State → Type 0) : Type 0 where

@@ -21,7 +21,7 @@ use Rattle.captures.specs.Captures as captures
 use Rattle.carry.specs.declared.Args.{Args}
 use Rattle.enter.specs.Enter.{hint_place}
 use Rattle.enter.specs.Enter as enter
-use Rattle.turn.specs.Window.{again_of, inside_of, raise_if, judge_of}
+use Rattle.turn.specs.Window.{again_of, inside_of, beta_if, raise_if, judge_of}
 use Rattle.turn.specs.Prune.{futile_of, late_of, reduction_if}
 use Rattle.leave.specs.Cutoff.{cutoff_of}
 use Rattle.leave.specs.Finish.{stored_of, end_if, finish_if}
@@ -71,7 +71,7 @@ abbrev pub Three : Type 0
 Three = Answers (neg_ℤ (pos 30000)) (pos 30000) (pos 40) × Answers (pos 50) (pos 100) (pos 50) × Answers (pos 0) (pos 20) (pos 20)
 
 pub three : Three
-unfolding wrap16 neg16 sub16 add16 eq_z quiet le record_at first_of count_of flags_of eval_of move_of hash_of in_check is_quiet is_draw nodes_of poll_of count_node seen_of keep_of consult_of place_of order_at child_of hint_place step.pat_if step.delta_prunes step.delta_if step.ply_if step.cut_if step.patted_if step.stop_if step.enter_of step.noisy_if step.noisy_at step.noisy_place step.score_if step.raise_if step.judge_of step.bound_if step.store_if step.finish_if captures.turn_if captures.next_if captures.walk_f captures.entered_f captures.captures_f enter.extended enter.extend_of enter.full_window enter.margin_if enter.reverse_futile enter.reverse_if enter.cut_if enter.probe_of enter.draw_if enter.enter_of enter.deepens_of enter.hinted_of again_of inside_of raise_if judge_of futile_of late_of reduction_if cutoff_of stored_of end_if finish_if search.widen_if search.again_if search.reduced_f search.futile_if search.turn_if search.next_if search.walk_f search.deepen_if search.entered_f search.depth_if search.stop_if search.visit_f
+unfolding wrap16 neg16 sub16 add16 eq_z quiet le record_at first_of count_of flags_of eval_of move_of hash_of in_check is_quiet is_draw nodes_of poll_of count_node seen_of keep_of consult_of place_of order_at child_of hint_place step.beta_if step.pat_if step.delta_prunes step.delta_if step.ply_if step.cut_if step.patted step.stop_if step.enter_of step.noisy_if step.noisy_at step.noisy_place step.score_if step.raise_if step.judge_of step.bound_if step.store_if step.finish_if captures.turn_if captures.next_if captures.walk_f captures.entered_f captures.captures_f enter.extended enter.extend_of enter.full_window enter.margin_if enter.reverse_futile enter.reverse_if enter.cut_if enter.probe_of enter.draw_if enter.enter_of enter.deepens_of enter.hinted_of again_of inside_of beta_if raise_if judge_of futile_of late_of reduction_if cutoff_of stored_of end_if finish_if search.widen_if search.again_if search.reduced_f search.futile_if search.turn_if search.next_if search.walk_f search.deepen_if search.entered_f search.depth_if search.stop_if search.visit_f
 three = (record { score_is = refl; no_stop = refl }, record { score_is = refl; no_stop = refl }, record { score_is = refl; no_stop = refl })
 
 -- the theorem, for a score that a window of this tree answers

@@ -5,31 +5,30 @@ use mathlib.Core.List.{List}
 use Prim.Native.Nat.{ℕ, zero, suc, ◌+◌}
 use lib.Dec.{eqb}
 use lib.IntN.{ℤ}
+use Rattle.std.specs.declared.ops.ControlFlow.TheVariants.{Continue, Break}
 use Rattle.record.specs.Node.{count_of}
 use Rattle.state.specs.declared.Settings.{Settings}
 use Rattle.state.specs.declared.State.{State}
 use Rattle.state.specs.declared.Out.{Out}
 use Rattle.state.specs.declared.Consulted.{Consulted}
 use Rattle.std.specs.declared.option.Option.{Option}
+use Rattle.std.specs.declared.option.Option.TheVariants.{Some, None}
 use Rattle.carry.specs.declared.Args.{Args}
 use Rattle.carry.specs.declared.Here.{Here}
 use Rattle.carry.specs.declared.Loc.{Loc}
-use Rattle.carry.specs.declared.Turn.{Turn}
-use Rattle.carry.specs.declared.Entered.{Entered}
-use Rattle.carry.specs.declared.Entered.TheVariants.{Answer, Moves}
-use Rattle.carry.specs.Carry.{With}
+use Rattle.carry.specs.Carry.{Turn, Entered, With}
 use Rattle.enter.specs.Enter.{extend_of, reverse_if, cut_if, probe_of, draw_if, enter_of, hinted_of}
-use Rattle.turn.specs.Window.{counted_of, raise_if, judge_of}
+use Rattle.turn.specs.Window.{counted_of, beta_if, raise_if, judge_of}
 use Rattle.leave.specs.Cutoff.{cutoff_of}
 use Rattle.leave.specs.Finish.{stored_of, end_if, finish_if}
 use Rattle.visits.specs.Search.{Visit, widen_if, again_if, reduced_f, futile_if, turn_if, next_if, walk_f, deepen_if, entered_f, depth_if, stop_if, visit_f}
-use Rattle.truth.proofs.Closed.{Closed, seen_q, keep_q}
+use Rattle.truth.proofs.Closed.{left, Closed, seen_q, keep_q}
 use Rattle.truth.proofs.KeepsCaptures.{captures_q}
 
 -- the state that the steps before the moves leave
 abbrev pub state_of : Entered → State
-state_of (Answer o) = o.state
-state_of (Moves h l) = l.state
+state_of (Break o) = o.state
+state_of (Continue (h, l)) = l.state
 
 module _ (t : List ℕ) (set : Settings) (Q : State → Type 0) (cl : Closed set Q) where
   abbrev pub KeepsV : Visit → Type 0
@@ -37,7 +36,7 @@ module _ (t : List ℕ) (set : Settings) (Q : State → Type 0) (cl : Closed set
 
   -- a walk's rest keeps it
   abbrev pub KeepsW : (Loc → List ℕ → List ℤ → With Turn) → Type 0
-  KeepsW go = (l : Loc) (words : List ℕ) (hist : List ℤ) → Q l.state → Q (go l words hist).it.loc.state
+  KeepsW go = (l : Loc) (words : List ℕ) (hist : List ℤ) → Q l.state → Q (left (go l words hist).it).state
 
   -- the steps before the moves
 
@@ -46,10 +45,10 @@ module _ (t : List ℕ) (set : Settings) (Q : State → Type 0) (cl : Closed set
   reverse-q true h l q = q
   reverse-q false h l q = q
 
-  cut-q : (b : Bool) (a : Args) (full : Bool) (w : Consulted) (s : State) → Q s → Q (state_of (cut_if b set t a full w s))
+  cut-q : (x : Option ℤ) (a : Args) (full : Bool) (w : Consulted) (s : State) → Q s → Q (state_of (cut_if x set t a full w s))
   unfolding cut_if
-  cut-q true a full w s q = q
-  cut-q false a full w s q = reverse-q _ _ _ q
+  cut-q (Some x) a full w s q = q
+  cut-q None a full w s q = reverse-q _ _ _ q
 
   draw-q : (b : Bool) (words : List ℕ) (s : State) (a : Args) → Q s → Q (state_of (draw_if b set t words s a))
   unfolding draw_if probe_of
@@ -76,41 +75,46 @@ module _ (t : List ℕ) (set : Settings) (Q : State → Type 0) (cl : Closed set
   unfolding reduced_f
   reduced-q v h l c d words hist kv q = again-q _ v h l c _ kv (kv _ _ _ _ q)
 
-  raise-q : (b : Bool) (h : Here) (l : Loc) (m : ℕ) (x : ℤ) (s : State) → Q s → Q (raise_if b h l m x s).loc.state
+  beta-q : (b : Bool) (l : Loc) → Q l.state → Q (left (beta_if b l)).state
+  unfolding beta_if
+  beta-q true l q = q
+  beta-q false l q = q
+
+  raise-q : (b : Bool) (h : Here) (l : Loc) (m : ℕ) (x : ℤ) (s : State) → Q s → Q (left (raise_if b h l m x s)).state
   unfolding raise_if
-  raise-q true h l m x s q = q
+  raise-q true h l m x s q = beta-q _ _ q
   raise-q false h l m x s q = q
 
-  pub judge_q : (h : Here) (l : Loc) (m : ℕ) (r : Out) → Q r.state → Q (judge_of h l m r).loc.state
+  pub judge_q : (h : Here) (l : Loc) (m : ℕ) (r : Out) → Q r.state → Q (left (judge_of h l m r)).state
   unfolding judge_of
   judge_q h l m r q = raise-q _ h l m _ r.state q
 
-  futile-q : (b : Bool) (v : Visit) (h : Here) (l : Loc) (c i : ℕ) (words : List ℕ) (hist : List ℤ) → KeepsV v → Q l.state → Q (futile_if b v t set h l c i words hist).it.loc.state
+  futile-q : (b : Bool) (v : Visit) (h : Here) (l : Loc) (c i : ℕ) (words : List ℕ) (hist : List ℤ) → KeepsV v → Q l.state → Q (left (futile_if b v t set h l c i words hist).it).state
   unfolding futile_if
   futile-q true v h l c i words hist kv q = q
   futile-q false v h l c i words hist kv q = judge_q h l _ _ (reduced-q v h l c _ words hist kv q)
 
-  turn-q : (b : Bool) (v : Visit) (h : Here) (l : Loc) (c i : ℕ) (words : List ℕ) (hist : List ℤ) → KeepsV v → Q l.state → Q (turn_if b v t set h l c i words hist).it.loc.state
+  turn-q : (b : Bool) (v : Visit) (h : Here) (l : Loc) (c i : ℕ) (words : List ℕ) (hist : List ℤ) → KeepsV v → Q l.state → Q (left (turn_if b v t set h l c i words hist).it).state
   unfolding turn_if
   turn-q true v h l c i words hist kv q = judge_q h _ _ _ (kv _ _ _ _ q)
   turn-q false v h l c i words hist kv q = futile-q _ v h l c i words hist kv q
 
-  cutoff-q : (h : Here) (p : Option ℕ) (c i : ℕ) (l : Loc) (words : List ℕ) (hist : List ℤ) → Q l.state → Q (cutoff_of t set h p c i l words hist).it.loc.state
+  cutoff-q : (h : Here) (p : Option ℕ) (c i : ℕ) (l : Loc) (words : List ℕ) (hist : List ℤ) → Q l.state → Q (cutoff_of t set h p c i l words hist).it.state
   unfolding cutoff_of
   cutoff-q h p c i l words hist q = keep_q set Q cl set.table words l.state _ _ _ _ _ q
 
   pub next_q
-      : (b : Bool) (h : Here) (p : Option ℕ) (c i : ℕ) (s : With Turn) (go : Loc → List ℕ → List ℤ → With Turn)
-      → KeepsW go → Q s.it.loc.state → Q (next_if b t set h p c i s go).it.loc.state
+      : (w : Turn) (words : List ℕ) (hist : List ℤ) (h : Here) (p : Option ℕ) (c i : ℕ) (go : Loc → List ℕ → List ℤ → With Turn)
+      → KeepsW go → Q (left w).state → Q (left (next_if w words hist t set h p c i go).it).state
   unfolding next_if
-  next_q true h p c i s go kg q = cutoff-q h p c i s.it.loc s.words s.history q
-  next_q false h p c i s go kg q = kg _ _ _ q
+  next_q (Break l) words hist h p c i go kg q = cutoff-q h p c i l words hist q
+  next_q (Continue l) words hist h p c i go kg q = kg l words hist q
 
   pub walk_q : (v : Visit) (h : Here) (p : Option ℕ) (n i : ℕ) → KeepsV v → KeepsW (walk_f v t set h p n i)
   unfolding walk_f
   walk_q v h p zero i kv l words hist q = q
   walk_q v h p (suc n) i kv l words hist q =
-      next_q _ h p _ i _ _ (walk_q v h p n (i + 1) kv) (turn-q (eqb i 0) v h (counted_of l) _ i words hist kv (cl.counted l.state q))
+      next_q _ _ _ h p _ i _ (walk_q v h p n (i + 1) kv) (turn-q (eqb i 0) v h (counted_of l) _ i words hist kv (cl.counted l.state q))
 
   -- the whole visit
 
@@ -128,16 +132,16 @@ module _ (t : List ℕ) (set : Settings) (Q : State → Type 0) (cl : Closed set
   end-q true h l words q = q
   end-q false h l words q = keep_q set Q cl set.table words l.state _ _ _ _ _ q
 
-  pub finish_q : (b : Bool) (h : Here) (l : Loc) (words : List ℕ) → Q l.state → Q (finish_if b t set h l words).it.state
+  pub finish_q : (w : Turn) (h : Here) (words : List ℕ) → Q (left w).state → Q (finish_if w t set h words).it.state
   unfolding finish_if
-  finish_q true h l words q = q
-  finish_q false h l words q = end-q _ h l words q
+  finish_q (Break l) h words q = q
+  finish_q (Continue l) h words q = end-q _ h l words q
 
   entered-q : (e : Entered) (v : Visit) (words : List ℕ) (hist : List ℤ) → KeepsV v → Q (state_of e) → Q (entered_f e v t set words hist).it.state
   unfolding entered_f
-  entered-q (Answer o) v words hist kv q = q
-  entered-q (Moves h l) v words hist kv q =
-      finish_q _ h _ _ (walk_q v h _ (count_of t h.node) 0 kv _ _ _ (deepen-q _ v h l words hist kv q))
+  entered-q (Break o) v words hist kv q = q
+  entered-q (Continue (h, l)) v words hist kv q =
+      finish_q _ h _ (walk_q v h _ (count_of t h.node) 0 kv _ _ _ (deepen-q _ v h l words hist kv q))
 
   depth-q
       : (b : Bool) (k : ℕ) (v : Visit) (s : State) (words : List ℕ) (hist : List ℤ) (a : Args)

@@ -13,30 +13,30 @@ use lib.Signed.{lt_z, le_z}
 use Rattle.score.specs.Wrap.{neg16, sub16}
 use Rattle.score.proofs.Order.{off}
 use Rattle.score.proofs.Range.{InZ, lt_yes, lt_not, le_yes, le_not, neg_off}
+use Rattle.std.specs.declared.ops.ControlFlow.TheVariants.{Continue, Break}
 use Rattle.record.specs.Node.{first_of, count_of, move_of, in_check, is_draw}
 use Rattle.state.specs.declared.Settings.{Settings}
 use Rattle.state.specs.declared.State.{State}
 use Rattle.state.specs.declared.Out.{Out}
 use Rattle.std.specs.declared.option.Option.{Option}
-use Rattle.moves.specs.declared.Place.TheVariants.{None}
+use Rattle.std.specs.declared.option.Option.TheVariants.{None}
 use Rattle.state.specs.State.{poll_of, count_node, seen_of, keep_of}
 use Rattle.state.specs.Consult.{consult_of}
 use Rattle.moves.specs.Order.{place_of, order_at, child_of}
 use Rattle.carry.specs.declared.Args.{Args}
 use Rattle.carry.specs.declared.Here.{Here}
 use Rattle.carry.specs.declared.Loc.{Loc}
-use Rattle.carry.specs.declared.Turn.{Turn}
-use Rattle.carry.specs.Carry.{With, with}
+use Rattle.carry.specs.Carry.{Turn, With, with}
 use Rattle.enter.specs.Enter.{hint_place, with_depth, extended, extend_of, reverse_futile, reverse_if, cut_if, probe_of, draw_if, enter_of, deepens_of}
-use Rattle.turn.specs.Window.{counted_of, full_of, first_best, again_of, inside_of, raise_if, judge_of}
+use Rattle.turn.specs.Window.{counted_of, full_of, first_best, again_of, inside_of, beta_if, raise_if, judge_of}
 use Rattle.turn.specs.Prune.{futile_of, late_of, reduction_if}
 use Rattle.leave.specs.Cutoff.{cutoff_of}
 use Rattle.leave.specs.Finish.{stored_of, end_if, finish_if, finish_of}
 use Rattle.visits.specs.Search.{Visit, capture_of, widen_if, again_if, reduced_f, judged, futile_if, turn_if, next_if, next_f, walk_f, deepen_if, entered_f, depth_if, stop_if, visit_f}
 use Rattle.minimax.specs.Minimax.{child_at, greatest, none, checked, end_of, of_children, of_draw, of_depth, depth_at, minimax_v}
-use Rattle.truth.proofs.Closed.{Stopped, stays, back}
+use Rattle.truth.proofs.Closed.{left, Stopped, stays, back}
 use Rattle.truth.proofs.Keeps as keeps
-use Rattle.truth.proofs.Settled.{plain_of, Known, Some, kid_at}
+use Rattle.truth.proofs.Settled.{plain_of, Known, At, kid_at}
 use Rattle.truth.proofs.Ranges.{best_of, zero_in, neg_z, greatest-off, end_in, end_is, minimax_in}
 use Rattle.truth.proofs.Tells.{Tells, Window, same_tells, neg_tells, neg_window, raised_window, null_window, null-tells, outside-tells}
 use Rattle.truth.proofs.TruthCaptures.{Truth, captures-ok}
@@ -46,12 +46,9 @@ abbrev Go : Type 0
 Go = Loc → List ℕ → List ℤ → With Turn
 
 -- what a walk's last turn answers: the cutoff's score, else alpha
-abbrev pick_z : Bool → ℤ → ℤ → ℤ
-pick_z true a b = a
-pick_z false a b = b
-
 abbrev result_of : Turn → ℤ
-result_of w = pick_z w.done w.loc.best w.loc.alpha
+result_of (Break l) = l.best
+result_of (Continue l) = l.alpha
 
 -- the search's extension is the minimax's
 
@@ -73,13 +70,13 @@ module _ (n : ℕ) (set : Settings) (t : List ℕ) (ok : Known n set.max_ply t) 
 
   -- what a walk leaves, if it was not stopped, tells of the value whose image is v
   abbrev Left : Turn → ℤ → ℤ → ℕ → Type 0
-  Left w alpha beta v = w.loc.state.stop ≡ false → Tells n (off alpha) (off beta) (off (result_of w)) v
+  Left w alpha beta v = (left w).state.stop ≡ false → Tells n (off alpha) (off beta) (off (result_of w)) v
 
   abbrev KeepsV : Visit → Type 0
   KeepsV v = (s : State) (words : List ℕ) (hist : List ℤ) (a : Args) → Stopped s → Stopped (v s words hist a).it.state
 
   abbrev KeepsW : Go → Type 0
-  KeepsW go = (l : Loc) (words : List ℕ) (hist : List ℤ) → Stopped l.state → Stopped (go l words hist).it.loc.state
+  KeepsW go = (l : Loc) (words : List ℕ) (hist : List ℤ) → Stopped l.state → Stopped (left (go l words hist).it).state
 
   -- what is left of a walk, from any point of it where m is the greatest image so far: u is the greatest of those to come
   abbrev Rest : ℤ → ℤ → ℕ → Go → Type 0
@@ -104,8 +101,8 @@ module _ (n : ℕ) (set : Settings) (t : List ℕ) (ok : Known n set.max_ply t) 
     done_ok
         : (b : Bool) (words : List ℕ) (hist : List ℤ) (l : Loc) (x : ℤ) (mv : ℕ) (s : State) (y v : ℕ)
         → b ≡ le_z h.beta x → Point h go l alpha m u → off l.alpha < off x → Tells n (off l.alpha) (off h.beta) (off x) y → v ≡ max (max m y) u
-        → Left (next_if b t S h pl c i (with (record { done = b; loc = record { alpha = x; best = x; mv = mv; state = s } }) words hist) go).it alpha h.beta v
-    unfolding next_if cutoff_of keep_of
+        → Left (next_f t S h pl c i (with (beta_if b (record { alpha = x; best = x; mv = mv; state = s })) words hist) go).it alpha h.beta v
+    unfolding beta_if next_if cutoff_of keep_of
     done_ok true words hist l x mv s y v e p up te ev = λ _.
         let k = le_yes h.beta x (sym e) in
         let a = p.is_max in
@@ -138,11 +135,11 @@ module _ (n : ℕ) (set : Settings) (t : List ℕ) (ok : Known n set.max_ply t) 
 
     -- if what a turn leads to is not stopped, the child's visit was not
     judged-back
-        : (l : Loc) (mv : ℕ) (r : With Out) → KeepsW go → (next_f t S h pl c i (judged h l mv r) go).it.loc.state.stop ≡ false → r.it.state.stop ≡ false
+        : (l : Loc) (mv : ℕ) (r : With Out) → KeepsW go → (left (next_f t S h pl c i (judged h l mv r) go).it).state.stop ≡ false → r.it.state.stop ≡ false
     judged-back l mv r kg e =
         let j = judged h l mv r in
-        back r.it.state (next_f t S h pl c i j go).it.loc.state
-        (λ q. keeps.next_q t S Stopped (stays S) j.it.done h pl c i j go kg (keeps.judge_q t S Stopped (stays S) h l mv r.it q)) e
+        back r.it.state (left (next_f t S h pl c i j go).it).state
+        (λ q. keeps.next_q t S Stopped (stays S) j.it j.words j.history h pl c i go kg (keeps.judge_q t S Stopped (stays S) h l mv r.it q)) e
 
   -- a child's visit tells of the child's value y
   record KidOk (v : Visit) (c depth ply : ℕ) (y : ℤ) : Type 0 where
@@ -222,20 +219,20 @@ module _ (n : ℕ) (set : Settings) (t : List ℕ) (ok : Known n set.max_ply t) 
 
   -- where there are moves, the answer is what the walk leaves
 
-  end-not : (b : Bool) (h : Here) (l : Loc) (words : List ℕ) (alpha beta : ℤ) (v : ℕ) → b ≡ false → Left (record { done = false; loc = l }) alpha beta v → Told (end_if b t S h l words).it alpha beta v
+  end-not : (b : Bool) (h : Here) (l : Loc) (words : List ℕ) (alpha beta : ℤ) (v : ℕ) → b ≡ false → Left (Continue l) alpha beta v → Told (end_if b t S h l words).it alpha beta v
   unfolding end_if stored_of keep_of
   end-not true h l words alpha beta v e k = absurd (true≢false e)
   end-not false h l words alpha beta v e k = k
 
   finish-ok
-      : (d : Bool) (h : Here) (l : Loc) (words : List ℕ) (alpha beta : ℤ) (v : ℕ) → eqb (count_of t h.node) 0 ≡ false
-      → Left (record { done = d; loc = l }) alpha beta v → Told (finish_if d t S h l words).it alpha beta v
+      : (w : Turn) (h : Here) (words : List ℕ) (alpha beta : ℤ) (v : ℕ) → eqb (count_of t h.node) 0 ≡ false
+      → Left w alpha beta v → Told (finish_if w t S h words).it alpha beta v
   unfolding finish_if
-  finish-ok true h l words alpha beta v e k = k
-  finish-ok false h l words alpha beta v e k = end-not _ h l words alpha beta v e k
+  finish-ok (Break l) h words alpha beta v e k = k
+  finish-ok (Continue l) h words alpha beta v e k = end-not _ h l words alpha beta v e k
 
   -- else the end of the game
-  end-ok : (b : Bool) (h : Here) (l : Loc) (words : List ℕ) (alpha beta : ℤ) → b ≡ true → Some t h.node h.ply → Told (end_if b t S h l words).it alpha beta (off (end_of (in_check t h.node) (pos n) h.ply))
+  end-ok : (b : Bool) (h : Here) (l : Loc) (words : List ℕ) (alpha beta : ℤ) → b ≡ true → At t h.node h.ply → Told (end_if b t S h l words).it alpha beta (off (end_of (in_check t h.node) (pos n) h.ply))
   unfolding end_if
   end-ok true h l words alpha beta e p =
       rw (end_is n set t ok (in_check t h.node) h.node h.ply p) (λ _. same_tells n (off alpha) (off beta) _ (end_in n set t ok (in_check t h.node) h.node h.ply p))
@@ -262,7 +259,7 @@ module _ (n : ℕ) (set : Settings) (t : List ℕ) (ok : Known n set.max_ply t) 
       })
 
   moves-ok
-      : (m : ℕ) (v : Visit) (h : Here) (f : ℕ → ℤ) (l : Loc) (words : List ℕ) (hist : List ℤ) → m ≡ count_of t h.node → Some t h.node h.ply
+      : (m : ℕ) (v : Visit) (h : Here) (f : ℕ → ℤ) (l : Loc) (words : List ℕ) (hist : List ℤ) → m ≡ count_of t h.node → At t h.node h.ply
       → Window n l.alpha h.beta → KeepsV v → Kids v h.node h.depth h.ply f
       → Told (finish_of t S h (walk_f v t S h None m 0 l words hist)).it l.alpha h.beta (off (of_children m (end_of (in_check t h.node) (pos n) h.ply) f))
   unfolding walk_f finish_if of_children
@@ -272,13 +269,13 @@ module _ (n : ℕ) (set : Settings) (t : List ℕ) (ok : Known n set.max_ply t) 
       let ni = neg_off n (f 0) ok.inf_high i0 in
       let bi = greatest-off n ok.inf_high none f (neg_ℤ (f 0)) j 1 (neg_z n ok.inf_high (f 0) i0) (λ q z. (kids q (omega arith)).in_range) in
       let w = walk_f v t S h None (suc j) 0 l words hist in
-      finish-ok w.it.done h w.it.loc w.words l.alpha h.beta (off (greatest none f (neg_ℤ (f 0)) j 1)) (ne_eqb (count_of t h.node) 0 (λ z. omega arith))
+      finish-ok w.it h w.words l.alpha h.beta (off (greatest none f (neg_ℤ (f 0)) j 1)) (ne_eqb (count_of t h.node) 0 (λ z. omega arith))
       (first-ok j v h f l words hist (off (greatest none f (neg_ℤ (f 0)) j 1)) em win kv kids (omega arith))
 
   -- the whole visit, at a depth that has the check's extension
 
   record NodeOk (v : Visit) (f : ℕ → ℤ) (a : Args) : Type 0 where
-    place : Some t a.node a.ply
+    place : At t a.node a.ply
     window : Window n a.alpha a.beta
     keeps : KeepsV v
     kids : Kids v a.node a.depth a.ply f
@@ -306,7 +303,7 @@ module _ (n : ℕ) (set : Settings) (t : List ℕ) (ok : Known n set.max_ply t) 
   stop-ok false k v f a s words hist e o = rw (extend_is t a) (depth-ok _ k v f (with_depth a (depth_at t a.node a.depth)) s words hist o)
 
   pub visit-ok
-      : (k : ℕ) (s : State) (words : List ℕ) (hist : List ℤ) (a : Args) → Some t a.node a.ply → Window n a.alpha a.beta
+      : (k : ℕ) (s : State) (words : List ℕ) (hist : List ℤ) (a : Args) → At t a.node a.ply → Window n a.alpha a.beta
       → Told (visit_f k t S s words hist a).it a.alpha a.beta (off (minimax_v k S t a.node (depth_at t a.node a.depth) a.ply))
   unfolding visit_f minimax_v
   visit-ok zero s words hist a p w = λ _. same_tells n (off a.alpha) (off a.beta) _ (zero_in n ok.inf_high)

@@ -11,23 +11,23 @@ use lib.Signed.{lt_z, le_z}
 use Rattle.score.specs.Wrap.{neg16}
 use Rattle.score.proofs.Order.{off}
 use Rattle.score.proofs.Range.{InZ, lt_yes, lt_not, le_yes, le_not}
+use Rattle.std.specs.declared.ops.ControlFlow.TheVariants.{Continue, Break}
 use Rattle.record.specs.Node.{first_of, count_of, eval_of, is_quiet}
 use Rattle.tree.specs.Blocks.{nodes_of}
 use Rattle.state.specs.declared.Settings.{Settings}
 use Rattle.state.specs.declared.State.{State}
 use Rattle.state.specs.declared.Out.{Out}
-use Rattle.moves.specs.declared.Place.TheVariants.{Nowhere}
+use Rattle.std.specs.declared.option.Option.TheVariants.{None}
 use Rattle.state.specs.State.{Over, poll_of, count_node, seen_of, keep_of}
 use Rattle.state.specs.Consult.{consult_of}
 use Rattle.moves.specs.Order.{place_of, order_at, child_of}
 use Rattle.capture_steps.specs.declared.Capture.{Capture}
 use Rattle.capture_steps.specs.declared.Here.{Here}
 use Rattle.capture_steps.specs.declared.Loc.{Loc}
-use Rattle.capture_steps.specs.declared.Turn.{Turn}
-use Rattle.capture_steps.specs.Step.{pat_if, delta_prunes, delta_if, ply_if, patted, patted_if, probe_of, cut_if, stop_if, enter_of, noisy_at, noisy_place, down_of, score_if, raise_if, judge_of, store_if, finish_if}
+use Rattle.capture_steps.specs.Step.{Turn, beta_if, pat_if, delta_prunes, delta_if, ply_if, patted, probe_of, cut_if, stop_if, enter_of, noisy_at, noisy_place, down_of, score_if, raise_if, judge_of, store_if, finish_if}
 use Rattle.captures.specs.Captures.{Visit, turn_if, next_if, next_f, walk_f, entered_f, captures_f}
 use Rattle.minimax.specs.Minimax.{child_at, quiet_at, capture_if, capture_v}
-use Rattle.truth.proofs.Closed.{Stopped, stays, back}
+use Rattle.truth.proofs.Closed.{left, Stopped, stays, back}
 use Rattle.truth.proofs.KeepsCaptures as keeps
 use Rattle.truth.proofs.Settled.{plain_of, Known, kid_in}
 use Rattle.truth.proofs.Ranges.{best_if, best_of, zero_in, greatest-off, eval_in, capture_in}
@@ -43,13 +43,13 @@ module _ (n : ℕ) (set : Settings) (t : List ℕ) (ok : Known n set.max_ply t) 
 
   -- so does the alpha that a walk leaves
   abbrev Left : Turn → ℤ → ℤ → ℕ → Type 0
-  Left w alpha beta v = w.loc.state.stop ≡ false → Tells n (off alpha) (off beta) (off w.loc.alpha) v
+  Left w alpha beta v = (left w).state.stop ≡ false → Tells n (off alpha) (off beta) (off (left w).alpha) v
 
   abbrev KeepsV : Visit → Type 0
   KeepsV v = (s : State) (words : List ℕ) (a : Capture) → Stopped s → Stopped (v s words a).it.state
 
   abbrev KeepsW : (Loc → List ℕ → Over Turn) → Type 0
-  KeepsW go = (l : Loc) (words : List ℕ) → Stopped l.state → Stopped (go l words).it.loc.state
+  KeepsW go = (l : Loc) (words : List ℕ) → Stopped l.state → Stopped (left (go l words).it).state
 
   -- what is left of a walk, from any point of it where m is the greatest image so far: u is the greatest of those to come
   abbrev Rest : ℤ → ℤ → ℕ → (Loc → List ℕ → Over Turn) → Type 0
@@ -106,10 +106,10 @@ module _ (n : ℕ) (set : Settings) (t : List ℕ) (ok : Known n set.max_ply t) 
   -- if what a turn leads to is not stopped, the child's visit was not
   judged-back
       : (words : List ℕ) (h : Here) (l : Loc) (c : ℕ) (r : Out) (go : Loc → List ℕ → Over Turn) → KeepsW go
-      → (next_f (judge_of S t words h l c r) go).it.loc.state.stop ≡ false → r.state.stop ≡ false
+      → (left (next_f (judge_of S t words h l c r) go).it).state.stop ≡ false → r.state.stop ≡ false
   judged-back words h l c r go kg e =
       let j = judge_of S t words h l c r in
-      back r.state (next_f j go).it.loc.state (λ q. keeps.next_q S t Stopped (stays S) j.it.done j go kg (keeps.judge_q S t Stopped (stays S) words h l c r q)) e
+      back r.state (left (next_f j go).it).state (λ q. keeps.next_q S t Stopped (stays S) j.it j.words go kg (keeps.judge_q S t Stopped (stays S) words h l c r q)) e
 
   -- a child's visit tells of the child's value y
   record KidOk (v : Visit) (c below ply : ℕ) (y : ℤ) : Type 0 where
@@ -139,30 +139,30 @@ module _ (n : ℕ) (set : Settings) (t : List ℕ) (ok : Known n set.max_ply t) 
 
   walk-ok
       : (v : Visit) (h : Here) (f : ℕ → ℤ) (alpha : ℤ) → Window n alpha h.beta → KeepsV v → Kids v h.node h.below h.ply f
-      → (m i : ℕ) → i + m ≤ count_of t h.node → Rest alpha h.beta (best_of (quiet_at t h.node) f m i) (walk_f v S t h Nowhere m i)
+      → (m i : ℕ) → i + m ≤ count_of t h.node → Rest alpha h.beta (best_of (quiet_at t h.node) f m i) (walk_f v S t h None m i)
   unfolding walk_f best_of child_of order_at
   walk-ok v h f alpha win kv kids zero i le l words m w a lt ew = λ _.
       let win2 = raised_window n ok.inf_high alpha h.beta win l.alpha m a lt in
       record { range = win2.alpha_in; under = omega arith; over = omega arith }
   walk-ok v h f alpha win kv kids (suc j) i le l words m w a lt ew =
-      turn-ok (is_quiet t (first_of t h.node + i)) v h l (first_of t h.node + i) words (walk_f v S t h Nowhere j (i + 1)) (f i) alpha m
+      turn-ok (is_quiet t (first_of t h.node + i)) v h l (first_of t h.node + i) words (walk_f v S t h None j (i + 1)) (f i) alpha m
       (best_of (quiet_at t h.node) f j (i + 1)) w (kids i (omega arith)) (record {
         rest = walk-ok v h f alpha win kv kids j (i + 1) (omega arith);
-        keeps = keeps.walk_q S t Stopped (stays S) v h Nowhere j (i + 1) kv;
+        keeps = keeps.walk_q S t Stopped (stays S) v h None j (i + 1) kv;
         window = win;
         is_max = a;
         below = lt;
       }) ew
 
-  store_ok : (b : Bool) (h : Here) (l : Loc) (words : List ℕ) (alpha beta : ℤ) (v : ℕ) → Left (record { done = false; loc = l }) alpha beta v → Truth (store_if b t S h l words).it alpha beta v
+  store_ok : (b : Bool) (h : Here) (l : Loc) (words : List ℕ) (alpha beta : ℤ) (v : ℕ) → Left (Continue l) alpha beta v → Truth (store_if b t S h l words).it alpha beta v
   unfolding store_if keep_of
   store_ok true h l words alpha beta v e = e
   store_ok false h l words alpha beta v e = e
 
-  finish-ok : (b : Bool) (h : Here) (l : Loc) (words : List ℕ) (alpha beta : ℤ) (v : ℕ) → Left (record { done = b; loc = l }) alpha beta v → Truth (finish_if b t S h l words).it alpha beta v
+  finish-ok : (w : Turn) (h : Here) (words : List ℕ) (alpha beta : ℤ) (v : ℕ) → Left w alpha beta v → Truth (finish_if w t S h words).it alpha beta v
   unfolding finish_if
-  finish-ok true h l words alpha beta v e = e
-  finish-ok false h l words alpha beta v e = store_ok _ h l words alpha beta v e
+  finish-ok (Break l) h words alpha beta v e = e
+  finish-ok (Continue l) h words alpha beta v e = store_ok _ h l words alpha beta v e
 
   -- a visit of a node's captures
   record CaptureOk (v : Visit) (f : ℕ → ℤ) (a : Capture) : Type 0 where
@@ -180,14 +180,14 @@ module _ (n : ℕ) (set : Settings) (t : List ℕ) (ok : Known n set.max_ply t) 
       → Truth (entered_f (probe_of S t words s a x) v S t words).it a.alpha a.beta (greatestOf f a)
   unfolding seen_of consult_of cut_if entered_f noisy_place noisy_at place_of
   probe-ok v f a x s words c e lt =
-      finish-ok _ _ _ _ a.alpha a.beta (greatestOf f a)
+      finish-ok _ _ _ a.alpha a.beta (greatestOf f a)
       (walk-ok v _ f a.alpha c.window c.keeps c.kids (count_of t a.node) 0 (omega arith) _ words (off (eval_of t a.node)) (greatestOf f a) e lt refl)
 
   beat-ok
       : (b : Bool) (v : Visit) (f : ℕ → ℤ) (a : Capture) (s : State) (words : List ℕ) → b ≡ le_z a.beta (eval_of t a.node) → CaptureOk v f a
       → off a.alpha < off (eval_of t a.node)
-      → Truth (entered_f (patted_if b (eval_of t a.node) S t words s a) v S t words).it a.alpha a.beta (greatestOf f a)
-  unfolding patted_if entered_f
+      → Truth (entered_f (patted (beta_if b (eval_of t a.node)) S t words s a) v S t words).it a.alpha a.beta (greatestOf f a)
+  unfolding beta_if patted entered_f
   beat-ok true v f a s words e c lt = λ _.
       let u = le_yes a.beta (eval_of t a.node) (sym e) in
       record { range = eval_in n set t ok a.node c.in_tree; under = omega arith; over = omega arith }
@@ -197,7 +197,7 @@ module _ (n : ℕ) (set : Settings) (t : List ℕ) (ok : Known n set.max_ply t) 
   pat-ok
       : (b : Bool) (v : Visit) (f : ℕ → ℤ) (a : Capture) (s : State) (words : List ℕ) → b ≡ lt_z a.alpha (eval_of t a.node) → CaptureOk v f a
       → Truth (entered_f (patted (pat_if b (eval_of t a.node) a) S t words s a) v S t words).it a.alpha a.beta (greatestOf f a)
-  unfolding pat_if patted_if
+  unfolding pat_if patted
   pat-ok true v f a s words e c =
       beat-ok _ v f a s words refl c (lt_yes n a.alpha (eval_of t a.node) ok.inf_high c.window.alpha_in (eval_in n set t ok a.node c.in_tree) (sym e))
   pat-ok false v f a s words e c =
@@ -207,7 +207,7 @@ module _ (n : ℕ) (set : Settings) (t : List ℕ) (ok : Known n set.max_ply t) 
   ply-ok
       : (b : Bool) (v : Visit) (f : ℕ → ℤ) (a : Capture) (s : State) (words : List ℕ) → CaptureOk v f a
       → Truth (entered_f (patted (ply_if b S (eval_of t a.node) a) S t words s a) v S t words).it a.alpha a.beta (off (capture_if b t a.node f))
-  unfolding ply_if delta_prunes delta_if patted_if entered_f capture_if
+  unfolding ply_if delta_prunes delta_if patted entered_f capture_if
   ply-ok true v f a s words c = λ _. same_tells n (off a.alpha) (off a.beta) _ (eval_in n set t ok a.node c.in_tree)
   ply-ok false v f a s words c =
       let e = greatest-off n ok.inf_high (quiet_at t a.node) f (eval_of t a.node) (count_of t a.node) 0 (eval_in n set t ok a.node c.in_tree) (λ j l. (c.kids j (omega arith)).in_range) in
