@@ -31,7 +31,7 @@ fn rebuilt(s: State) -> State
         age: c.age,
     };
     State {
-        stats: stats,
+        stats,
         nodes: s.nodes,
         stop: s.stop,
     }
