@@ -30,7 +30,7 @@ use Rattle.turn.specs.Window.{counted_of, full_of, null_of, again_of, inside_of}
 use Rattle.turn.specs.Prune.{futile_of, reduction_at}
 use Rattle.leave.specs.Finish.{finish_of}
 use Rattle.visits.specs.Reach.{Reach, need}
-use Rattle.visits.specs.Search.{Visit, capture_of, widen_if, widen_f, again_if, again_f, reduced_f, judged, judged_first, futile_if, turn_if, turn_f, next_if, next_f, walk_f, walk_all, hinted, deepen_if, deepen_f, entered_f, depth_if, stop_if, polled_f, visit_f, whole, node_search}
+use Rattle.visits.specs.Search.{Visit, capture_of, widen_if, widen_f, again_if, again_f, reduced_f, judged, judged_first, futile_if, turn_if, next_if, next_f, walk_f, walk_all, hinted, deepen_if, deepen_f, entered_f, depth_if, stop_if, polled_f, visit_f, whole, node_search}
 use Rattle.visits.proofs.Asked.{extend_most, extend_same, enter_stays, deep_enough, hint_among, enough}
 
 -- of every accepted tree, from every state, table and history, at every node, side, window, depth and ply: the same answer, words and entries

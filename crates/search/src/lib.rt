@@ -31,7 +31,7 @@ fn rebuilt(s: State) -> State
         age: c.age,
     };
     State {
-        stats: stats,
+        stats,
         nodes: s.nodes,
         stop: s.stop,
     }
@@ -65,6 +65,7 @@ fn capture_of(a: Args) -> Capture
 
 // Poll; in check, depth + 1; depth 0: captures; draw, table, reverse futility; inner deepening; moves; end of game; store.
 #[cycle(node_visit)]
+#[tactic(auto, using(captures::proofs::Walks::tree_rules))]
 pub fn search_node(
     tree: &[u8],
     words: &mut [u64],
@@ -103,6 +104,7 @@ pub fn search_node(
 
 // Inner deepening: in a full window without a hint, a visit of the same node, two shallower, may leave a hint in the table.
 #[cycle(node_visit)]
+#[tactic(auto, using(captures::proofs::Walks::tree_rules), unfolding(visits::specs::Search::deepen_if))]
 fn deepen(
     tree: &[u8],
     words: &mut [u64],
@@ -127,6 +129,7 @@ fn deepen(
 
 // The moves in their order, until one cuts.
 #[cycle(node_visit)]
+#[tactic(auto, using(captures::proofs::Walks::tree_rules))]
 fn walk(
     tree: &[u8],
     words: &mut [u64],
@@ -162,6 +165,7 @@ fn walk(
 
 // One move: the first in the full window, a futile one skipped, the others in a null window first.
 #[cycle(node_visit)]
+#[tactic(auto, using(captures::proofs::Walks::tree_rules, moves::proofs::Kids::level_low), unfolding(visits::specs::Search::turn_if, visits::specs::Search::futile_if))]
 fn turn(
     tree: &[u8],
     words: &mut [u64],
@@ -197,6 +201,7 @@ fn turn(
 
 // A later move: a null window at the reduced depth, and again at the whole depth where that beat alpha.
 #[cycle(node_visit)]
+#[tactic(auto, using(captures::proofs::Walks::tree_rules, moves::proofs::Kids::level_low))]
 fn reduced(
     tree: &[u8],
     words: &mut [u64],
@@ -227,6 +232,7 @@ fn reduced(
 
 // The full window, where the null window's score lies inside it.
 #[cycle(node_visit)]
+#[tactic(auto, using(captures::proofs::Walks::tree_rules, moves::proofs::Kids::level_low), unfolding(visits::specs::Search::widen_if))]
 fn widened(
     tree: &[u8],
     words: &mut [u64],

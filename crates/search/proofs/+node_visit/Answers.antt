@@ -5,13 +5,12 @@ use Prim.Native.Nat.{ℕ, ◌+◌, ◌-◌, ◌<◌, ◌≤◌}
 use mathlib.Core.Path.{◌≡◌, sym, ap, ap₂, subst, ◌∙◌}
 use native.Mathlib.Omega.{arith}
 use Rattle.tree.proofs.Accepted.{count_most}
-use Rattle.tree.proofs.Blocked.{record_in}
 use Rattle.state.specs.declared.Out.{Out}
 use Rattle.state.specs.declared.State.{State}
 use Rattle.record.specs.Node.{count_of}
 use Rattle.moves.specs.Kid.{Kid}
 use Rattle.moves.specs.Order.{child_of}
-use Rattle.moves.proofs.Kids.{blocked, laid, level_low}
+use Rattle.moves.proofs.Kids.{blocked, level_low}
 use Rattle.captures.specs.Reach as captures
 use Rattle.captures.specs.Captures.{captures_f}
 use Rattle.capture_steps.specs.declared.Capture.{Capture}
@@ -22,8 +21,8 @@ use Rattle.leave.specs.Cutoff.{cutoff_of}
 use Rattle.turn.specs.Window.{judge_of}
 use Rattle.visits.specs.Reach.{Reach, Inside}
 use Rattle.visits.specs.Search.{visit_f, walk_f, turn_f, cut_of}
-use Rattle.visits.proofs.Turns.{widen_yes, widen_no, reduced_again, reduced_once, turn_first, turn_futile, turn_reduced, walk_next, walk_cut, walk_over}
-use Rattle.visits.proofs.Visits.{deepen_yes, deepen_no, visit_stop, visit_captures, visit_answer, visit_moves}
+use Rattle.visits.proofs.Turns.{widen_yes, reduced_again, reduced_once, turn_first, turn_reduced, walk_next, walk_cut, walk_over}
+use Rattle.visits.proofs.Visits.{deepen_yes, visit_stop, visit_captures, visit_answer, visit_moves}
 use Rattle.visits.proofs.Asked.{Same, Stays, still_ready, same_after, most_after, enter_stays, inside, to_captures, deep_enough, to_inner, to_full, to_null, kid_at, reduction_most}
 use Rattle.search.proofs.+node_visit.Goals as goal
 
@@ -44,21 +43,6 @@ deepen-search_node-r-requires t c =
     let ed : c.inner.result.depth ≡ here.depth - 2 = ap (λ (x : Args). x.depth) e in
     (omega (arith, c.decreases), (c.requires.ready, subst (Reach tree) (sym e) (to_inner tree here loc c.requires.inside)))
 
-pub deepen-hinted-requires-clause-blocked : goal.deepen-hinted-requires-clause-blocked
-deepen-hinted-requires-clause-blocked t c =
-    let set = c.args.set in
-    let tree = c.args.tree.now in
-    let r = c.requires.ready in
-    blocked set tree r.accepted
-
-pub deepen-hinted-requires-clause-node_bound : goal.deepen-hinted-requires-clause-node_bound
-deepen-hinted-requires-clause-node_bound t c = c.requires.inside.in_tree
-
-pub deepen-hinted-requires-clause-in_bounds : goal.deepen-hinted-requires-clause-in_bounds
-deepen-hinted-requires-clause-in_bounds t c =
-    let r = c.requires.ready in
-    omega (arith, c.search_node-r.auto.words, r.words_least)
-
 pub deepen-returns-then-deepens : goal.deepen-returns-then-deepens
 deepen-returns-then-deepens t c =
     let set = c.args.set in
@@ -75,32 +59,6 @@ deepen-returns-then-deepens t c =
     ∙ deepen_yes (visit_f k tree set) tree set here loc words history (sym c.deepens.ensures ∙ c.if-deepens.true) _
     (c.search_node-r.ensures k (omega (arith, h)) ∙ ap (visit_f k tree set loc.state words history) e)
 
-pub deepen-returns : goal.deepen-returns
-deepen-returns t c =
-    let tree = c.args.tree.now in
-    let set = c.args.set in
-    let here = c.args.here in
-    let loc = c.args.loc in
-    let words = c.args.words.now in
-    let history = c.args.history.now in
-    λ k h. deepen_no (visit_f k tree set) tree set here loc words history (sym c.deepens.ensures ∙ c.if-deepens.false)
-
-pub reduced-null-requires-clause-side_bound : goal.reduced-null-requires-clause-side_bound
-reduced-null-requires-clause-side_bound t c =
-    let i = c.requires.inside in
-    i.side_most
-
-pub reduced-null-requires-clause-d_bound : goal.reduced-null-requires-clause-d_bound
-reduced-null-requires-clause-d_bound t c = c.requires.d_bound
-
-pub reduced-null-requires-clause-ply_bound : goal.reduced-null-requires-clause-ply_bound
-reduced-null-requires-clause-ply_bound t c =
-    let set = c.args.set in
-    let tree = c.args.tree.now in
-    let here = c.args.here in
-    let i = c.requires.inside in
-    omega (arith, i.ply_most, level_low set tree c.requires.ready.accepted here.node)
-
 pub reduced-search_node-r-requires : goal.reduced-search_node-r-requires
 reduced-search_node-r-requires t c =
     let child = c.args.c in
@@ -114,24 +72,6 @@ reduced-search_node-r-requires t c =
     let en : c.null.result.node ≡ child = ap (λ (x : Args). x.node) e in
     let ed : c.null.result.depth ≡ here.depth - 1 - d = ap (λ (x : Args). x.depth) e in
     (omega (arith, c.decreases, g.above, g.in_tree, i.depth_most), (c.requires.ready, subst (Reach tree) (sym e) (to_null tree here loc child i g d)))
-
-pub reduced-null-requires-then-again-clause-side_bound : goal.reduced-null-requires-then-again-clause-side_bound
-reduced-null-requires-then-again-clause-side_bound t c =
-    let i = c.requires.inside in
-    i.side_most
-
-pub reduced-null-requires-then-again-clause-d_bound : goal.reduced-null-requires-then-again-clause-d_bound
-reduced-null-requires-then-again-clause-d_bound t c =
-    let i = c.requires.inside in
-    i.depth_least
-
-pub reduced-null-requires-then-again-clause-ply_bound : goal.reduced-null-requires-then-again-clause-ply_bound
-reduced-null-requires-then-again-clause-ply_bound t c =
-    let set = c.args.set in
-    let tree = c.args.tree.now in
-    let here = c.args.here in
-    let i = c.requires.inside in
-    omega (arith, i.ply_most, level_low set tree c.requires.ready.accepted here.node)
 
 pub reduced-search_node-q-requires : goal.reduced-search_node-q-requires
 reduced-search_node-q-requires t c =
@@ -218,22 +158,10 @@ search_node-returns-then-stop t c =
     λ k h. ap (λ (x : Out). with x words history) c.answer.ensures
     ∙ visit_stop k _ tree c.args.set c.args.st c.poll-s.result words history c.args.a h c.poll-s.ensures c.if-stop.true
 
-pub search_node-extend-x-requires-clause-blocked : goal.search_node-extend-x-requires-clause-blocked
-search_node-extend-x-requires-clause-blocked t c = blocked c.args.set c.args.tree.now c.requires.ready.accepted
-
-pub search_node-extend-x-requires-clause-node_bound : goal.search_node-extend-x-requires-clause-node_bound
-search_node-extend-x-requires-clause-node_bound t c = c.requires.reach.in_tree
-
-pub search_node-extend-x-requires-clause-depth_bound : goal.search_node-extend-x-requires-clause-depth_bound
-search_node-extend-x-requires-clause-depth_bound t c = c.requires.reach.depth_most
-
 pub search_node-capture_of-requires : goal.search_node-capture_of-requires
 search_node-capture_of-requires t c =
     let r = to_captures c.args.tree.now c.args.a c.extend-x.result c.extend-x.ensures c.requires.reach in
     omega (arith, r.ply_least, level_low c.args.set c.args.tree.now c.requires.ready.accepted c.extend-x.result.node)
-
-pub search_node-captures-q-requires-clause-accepted_by : goal.search_node-captures-q-requires-clause-accepted_by
-search_node-captures-q-requires-clause-accepted_by t c = c.requires.ready.accepted
 
 pub search_node-captures-q-requires-clause-reach : goal.search_node-captures-q-requires-clause-reach
 search_node-captures-q-requires-clause-reach t c =
@@ -241,9 +169,6 @@ search_node-captures-q-requires-clause-reach t c =
     let reach = to_captures tree c.args.a c.extend-x.result c.extend-x.ensures c.requires.reach in
     let asked = subst (λ (x : Capture). captures.Reach tree x.node x.below x.ply) (sym c.capture_of.ensures) reach in
     asked
-
-pub search_node-captures-q-requires-clause-in_bounds : goal.search_node-captures-q-requires-clause-in_bounds
-search_node-captures-q-requires-clause-in_bounds t c = c.requires.ready.words_least
 
 pub search_node-returns-then-depth-eq0 : goal.search_node-returns-then-depth-eq0
 search_node-returns-then-depth-eq0 t c =
@@ -259,12 +184,6 @@ search_node-returns-then-depth-eq0 t c =
     (c.captures-q.ensures k (omega (arith, h, same.0))
     ∙ ap₂ (λ (x : State) (y : Capture). captures_f k set tree x words y) c.rebuilt.ensures c.capture_of.ensures)
 
-pub search_node-enter-requires-clause-blocked : goal.search_node-enter-requires-clause-blocked
-search_node-enter-requires-clause-blocked t c =
-    let tree = c.args.tree.now in
-    let ready = c.requires.ready in
-    blocked c.args.set tree ready.accepted
-
 pub search_node-enter-requires-clause-node_bound : goal.search_node-enter-requires-clause-node_bound
 search_node-enter-requires-clause-node_bound t c =
     let tree = c.args.tree.now in
@@ -278,11 +197,6 @@ search_node-enter-requires-clause-depth_bound t c =
     let most = most_after tree c.args.a c.extend-x.result c.extend-x.ensures in
     let r = c.requires.reach in
     omega (arith, r.depth_most, most)
-
-pub search_node-enter-requires-clause-in_bounds : goal.search_node-enter-requires-clause-in_bounds
-search_node-enter-requires-clause-in_bounds t c =
-    let ready = c.requires.ready in
-    ready.words_least
 
 pub search_node-deepen-l-requires : goal.search_node-deepen-l-requires
 search_node-deepen-l-requires t c =
@@ -313,13 +227,6 @@ search_node-walk-w-requires t c =
     let set = c.args.set in
     let tree = c.args.tree.now in
     (omega (arith, c.decreases, g.0, same.0), (still_ready set tree _ _ _ _ c.requires.ready kept.words kept.history, here-inside))
-
-pub search_node-finish-requires-clause-blocked : goal.search_node-finish-requires-clause-blocked
-search_node-finish-requires-clause-blocked t c =
-    let set = c.args.set in
-    let tree = c.args.tree.now in
-    let r = c.requires.ready in
-    blocked set tree r.accepted
 
 pub search_node-finish-requires-clause-node_bound : goal.search_node-finish-requires-clause-node_bound
 search_node-finish-requires-clause-node_bound t c =
@@ -373,31 +280,6 @@ search_node-returns-in-Continue t c =
     (with c.deepen-l.result c.deepen-l.new.words c.deepen-l.new.history) (c.deepen-l.ensures (k - 1) (omega (arith, h, g.0, same.0, g.1.1.0, most)))
     (with c.walk-w.result c.walk-w.new.words c.walk-w.new.history) (c.walk-w.ensures (k - 1) (omega (arith, h, g.0, same.0)))
 
-pub turn-move_to-mv-requires : goal.turn-move_to-mv-requires
-turn-move_to-mv-requires t c =
-    let tree = c.args.tree.now in
-    let set = c.args.set in
-    let child = c.args.c in
-    record_in tree (blocked set tree c.requires.ready.accepted) child c.requires.kid.in_tree
-
-pub turn-full-requires-clause-side_bound : goal.turn-full-requires-clause-side_bound
-turn-full-requires-clause-side_bound t c =
-    let i = c.requires.inside in
-    i.side_most
-
-pub turn-full-requires-clause-le_depth : goal.turn-full-requires-clause-le_depth
-turn-full-requires-clause-le_depth t c =
-    let i = c.requires.inside in
-    i.depth_least
-
-pub turn-full-requires-clause-ply_bound : goal.turn-full-requires-clause-ply_bound
-turn-full-requires-clause-ply_bound t c =
-    let set = c.args.set in
-    let tree = c.args.tree.now in
-    let here = c.args.here in
-    let i = c.requires.inside in
-    omega (arith, i.ply_most, level_low set tree c.requires.ready.accepted here.node)
-
 pub turn-search_node-r-requires : goal.turn-search_node-r-requires
 turn-search_node-r-requires t c =
     let child = c.args.c in
@@ -409,12 +291,6 @@ turn-search_node-r-requires t c =
     let en : c.full.result.node ≡ child = ap (λ (x : Args). x.node) e in
     let ed : c.full.result.depth ≡ here.depth - 1 = ap (λ (x : Args). x.depth) e in
     (omega (arith, c.decreases, g.above, g.in_tree, i.depth_most), (c.requires.ready, subst (Reach tree) (sym e) (to_full tree here c.counted-l.result child i g)))
-
-pub turn-first-requires-clause-blocked : goal.turn-first-requires-clause-blocked
-turn-first-requires-clause-blocked t c = blocked c.args.set c.args.tree.now c.requires.ready.accepted
-
-pub turn-first-requires-clause-c_bound : goal.turn-first-requires-clause-c_bound
-turn-first-requires-clause-c_bound t c = c.requires.kid.in_tree
 
 pub turn-returns-then-i-eq0 : goal.turn-returns-then-i-eq0
 turn-returns-then-i-eq0 t c =
@@ -435,43 +311,6 @@ turn-returns-then-i-eq0 t c =
     (c.judge.ensures ∙ ap₂ (λ (x : Loc) (y : ℕ). judge_of here x y c.search_node-r.result) c.first.ensures c.move_to-mv.ensures)
     ∙ turn_first (visit_f k tree set) tree set here child nth loc c.counted-l.result words history c.counted-l.ensures c.if-i-eq0.true _
     (c.search_node-r.ensures k (omega (arith, h, g.above, g.in_tree, i.depth_most)) ∙ ap (visit_f k tree set c.counted-l.result.state words history) e)
-
-pub turn-futile-requires-clause-blocked : goal.turn-futile-requires-clause-blocked
-turn-futile-requires-clause-blocked t c =
-    let set = c.args.set in
-    let tree = c.args.tree.now in
-    blocked set tree c.requires.ready.accepted
-
-pub turn-futile-requires-clause-node_bound : goal.turn-futile-requires-clause-node_bound
-turn-futile-requires-clause-node_bound t c = c.requires.inside.in_tree
-
-pub turn-futile-requires-clause-c_bound : goal.turn-futile-requires-clause-c_bound
-turn-futile-requires-clause-c_bound t c = c.requires.kid.in_tree
-
-pub turn-returns-then-futile : goal.turn-returns-then-futile
-turn-returns-then-futile t c =
-    let tree = c.args.tree.now in
-    let set = c.args.set in
-    λ k h. turn_futile (visit_f k tree set) tree set c.args.here c.args.c c.args.i c.args.loc c.counted-l.result c.args.words.now c.args.history.now
-    c.counted-l.ensures c.if-i-eq0.false (sym c.futile.ensures ∙ c.if-futile.true)
-
-pub turn-reduction-d-requires-clause-blocked : goal.turn-reduction-d-requires-clause-blocked
-turn-reduction-d-requires-clause-blocked t c =
-    let set = c.args.set in
-    let tree = c.args.tree.now in
-    blocked set tree c.requires.ready.accepted
-
-pub turn-reduction-d-requires-clause-node_bound : goal.turn-reduction-d-requires-clause-node_bound
-turn-reduction-d-requires-clause-node_bound t c = c.requires.inside.in_tree
-
-pub turn-reduction-d-requires-clause-c_bound : goal.turn-reduction-d-requires-clause-c_bound
-turn-reduction-d-requires-clause-c_bound t c = c.requires.kid.in_tree
-
-pub turn-reduction-d-requires-clause-le_depth : goal.turn-reduction-d-requires-clause-le_depth
-turn-reduction-d-requires-clause-le_depth t c = c.requires.inside.depth_least
-
-pub turn-reduction-d-requires-clause-i_bound : goal.turn-reduction-d-requires-clause-i_bound
-turn-reduction-d-requires-clause-i_bound t c = c.requires.i_bound
 
 pub turn-reduced-r-requires : goal.turn-reduced-r-requires
 turn-reduced-r-requires t c =
@@ -498,25 +337,6 @@ turn-returns t c =
     (c.judge-2.ensures ∙ ap (λ (y : ℕ). judge_of here c.counted-l.result y c.reduced-r.result) c.move_to-mv.ensures)
     ∙ turn_reduced (visit_f k tree set) tree set here child nth loc c.counted-l.result words history
     c.counted-l.ensures c.if-i-eq0.false (sym c.futile.ensures ∙ c.if-futile.false) _ c.reduction-d.ensures _ (c.reduced-r.ensures k h)
-
-pub walk-child_count-n-requires : goal.walk-child_count-n-requires
-walk-child_count-n-requires t c =
-    let tree = c.args.tree.now in
-    let set = c.args.set in
-    let here = c.args.here in
-    record_in tree (blocked set tree c.requires.ready.accepted) here.node c.requires.inside.in_tree
-
-pub walk-hint_place-place-requires-clause-laid : goal.walk-hint_place-place-requires-clause-laid
-walk-hint_place-place-requires-clause-laid t c = laid c.args.set c.args.tree.now c.requires.ready.accepted
-
-pub walk-hint_place-place-requires-clause-node_bound : goal.walk-hint_place-place-requires-clause-node_bound
-walk-hint_place-place-requires-clause-node_bound t c = c.requires.inside.in_tree
-
-pub walk-child-c-requires-clause-blocked : goal.walk-child-c-requires-clause-blocked
-walk-child-c-requires-clause-blocked t c = blocked c.args.set c.args.tree.now c.requires.ready.accepted
-
-pub walk-child-c-requires-clause-k_bound : goal.walk-child-c-requires-clause-k_bound
-walk-child-c-requires-clause-k_bound t c = c.requires.inside.in_tree
 
 pub walk-child-c-requires-clause-i_bound : goal.walk-child-c-requires-clause-i_bound
 walk-child-c-requires-clause-i_bound t c =
@@ -602,24 +422,6 @@ walk-returns t c =
     ∙ c.loop-i.invariant.1.1 k h
     ∙ ap₂ (λ x y. walk_f (visit_f k tree set) tree set here x y 0 c.args.loc c.args.words.now c.args.history.now) c.hint_place-place.ensures c.child_count-n.ensures
 
-pub widened-full-requires-clause-side_bound : goal.widened-full-requires-clause-side_bound
-widened-full-requires-clause-side_bound t c =
-    let i = c.requires.inside in
-    i.side_most
-
-pub widened-full-requires-clause-le_depth : goal.widened-full-requires-clause-le_depth
-widened-full-requires-clause-le_depth t c =
-    let i = c.requires.inside in
-    i.depth_least
-
-pub widened-full-requires-clause-ply_bound : goal.widened-full-requires-clause-ply_bound
-widened-full-requires-clause-ply_bound t c =
-    let set = c.args.set in
-    let tree = c.args.tree.now in
-    let here = c.args.here in
-    let i = c.requires.inside in
-    omega (arith, i.ply_most, level_low set tree c.requires.ready.accepted here.node)
-
 pub widened-search_node-q-requires : goal.widened-search_node-q-requires
 widened-search_node-q-requires t c =
     let child = c.args.c in
@@ -650,15 +452,3 @@ widened-returns-then-inside t c =
     let ed : c.full.result.depth ≡ here.depth - 1 = ap (λ (x : Args). x.depth) e in
     λ k h. widen_yes (visit_f k tree set) here loc child (with r words history) (sym c.inside.ensures ∙ c.if-inside.true) _
     (c.search_node-q.ensures k (omega (arith, h, g.above, g.in_tree, i.depth_most)) ∙ ap (visit_f k tree set r.state words history) e)
-
-pub widened-returns : goal.widened-returns
-widened-returns t c =
-    let tree = c.args.tree.now in
-    let set = c.args.set in
-    let here = c.args.here in
-    let loc = c.args.loc in
-    let child = c.args.c in
-    let r = c.args.r in
-    let words = c.args.words.now in
-    let history = c.args.history.now in
-    λ k h. widen_no (visit_f k tree set) here loc child (with r words history) (sym c.inside.ensures ∙ c.if-inside.false)
