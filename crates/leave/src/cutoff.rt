@@ -50,7 +50,7 @@ fn credit(
 }
 
 // A cutoff by the i-th move, which leads to c: bonus and malus if it is quiet, and the score stored as Lower.
-#[tactic(auto, using(tree::proofs::Blocked::record_in, crate::proofs::Positive::positive_abs), unfolding(crate::specs::Cutoff::cutoff_of, crate::specs::Cutoff::credit_if))]
+#[tactic(auto, using(crate::proofs::Credits::cutoff_rules), unfolding(crate::specs::Cutoff::cutoff_of, crate::specs::Cutoff::credit_if))]
 pub fn cutoff(
     tree: &[u8],
     words: &mut [u64],

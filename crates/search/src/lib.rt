@@ -65,7 +65,7 @@ fn capture_of(a: Args) -> Capture
 
 // Poll; in check, depth + 1; depth 0: captures; draw, table, reverse futility; inner deepening; moves; end of game; store.
 #[cycle(node_visit)]
-#[tactic(auto, using(captures::proofs::Walks::tree_rules))]
+#[tactic(auto, using(visits::proofs::Asked::node_rules))]
 pub fn search_node(
     tree: &[u8],
     words: &mut [u64],
@@ -104,7 +104,7 @@ pub fn search_node(
 
 // Inner deepening: in a full window without a hint, a visit of the same node, two shallower, may leave a hint in the table.
 #[cycle(node_visit)]
-#[tactic(auto, using(captures::proofs::Walks::tree_rules), unfolding(visits::specs::Search::deepen_if))]
+#[tactic(auto, using(visits::proofs::Asked::node_rules), unfolding(visits::specs::Search::deepen_if))]
 fn deepen(
     tree: &[u8],
     words: &mut [u64],
@@ -129,7 +129,7 @@ fn deepen(
 
 // The moves in their order, until one cuts.
 #[cycle(node_visit)]
-#[tactic(auto, using(captures::proofs::Walks::tree_rules))]
+#[tactic(auto, using(visits::proofs::Asked::node_rules))]
 fn walk(
     tree: &[u8],
     words: &mut [u64],
@@ -165,7 +165,7 @@ fn walk(
 
 // One move: the first in the full window, a futile one skipped, the others in a null window first.
 #[cycle(node_visit)]
-#[tactic(auto, using(captures::proofs::Walks::tree_rules, moves::proofs::Kids::level_low), unfolding(visits::specs::Search::turn_if, visits::specs::Search::futile_if))]
+#[tactic(auto, using(visits::proofs::Asked::node_rules), unfolding(visits::specs::Search::turn_if, visits::specs::Search::futile_if))]
 fn turn(
     tree: &[u8],
     words: &mut [u64],
@@ -201,7 +201,7 @@ fn turn(
 
 // A later move: a null window at the reduced depth, and again at the whole depth where that beat alpha.
 #[cycle(node_visit)]
-#[tactic(auto, using(captures::proofs::Walks::tree_rules, moves::proofs::Kids::level_low))]
+#[tactic(auto, using(visits::proofs::Asked::node_rules))]
 fn reduced(
     tree: &[u8],
     words: &mut [u64],
@@ -232,7 +232,7 @@ fn reduced(
 
 // The full window, where the null window's score lies inside it.
 #[cycle(node_visit)]
-#[tactic(auto, using(captures::proofs::Walks::tree_rules, moves::proofs::Kids::level_low), unfolding(visits::specs::Search::widen_if))]
+#[tactic(auto, using(visits::proofs::Asked::node_rules), unfolding(visits::specs::Search::widen_if))]
 fn widened(
     tree: &[u8],
     words: &mut [u64],

@@ -11,6 +11,7 @@ use borrow.Author.Tests.{ltb-true}
 use Rattle.tree.specs.Blocks.{nodes_of}
 use Rattle.record.specs.Node.{first_of, count_of, hash_of, in_check, is_draw}
 use Rattle.tree.proofs.Every.{two}
+use Rattle.tree.proofs.Blocked.{record_in}
 use Rattle.state.specs.declared.Settings.{Settings}
 use Rattle.state.specs.declared.State.{State}
 use Rattle.state.specs.declared.Consulted.{Consulted}
@@ -21,7 +22,7 @@ use Rattle.state.specs.Accepted.{AcceptedBy}
 use Rattle.moves.specs.Kid.{Kid}
 use Rattle.moves.specs.Order.{child_of}
 use Rattle.state.specs.State.{seen_of}
-use Rattle.moves.proofs.Kids.{kid}
+use Rattle.moves.proofs.Kids.{kid, blocked, laid, level_low}
 use Rattle.moves.proofs.Ordered.{Among, place_among}
 use Rattle.captures.specs.Reach as captures
 use Rattle.carry.specs.declared.Args.{Args}
@@ -156,3 +157,6 @@ reduction_most t set h c i = reduction_if_lem (late_of t set h c i) t h c i
 -- the fuel of the whole tree is enough for any visit
 pub enough : (t : List ℕ) (a : Args) → Reach t a → need t a.node a.depth < whole t
 enough t a r = omega (arith, r.depth_most)
+
+-- a node's record lies in an accepted tree, and its level is low
+pub ruleset node_rules = (blocked, laid, record_in, level_low)
