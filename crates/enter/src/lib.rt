@@ -30,7 +30,7 @@ pub fn extend(tree: &[u8], a: Args) -> Args
 }
 
 // A full window is one whose alpha is not beta - 1.
-#[tactic(auto, using(crate::proofs::Same::same_is), unfolding(crate::specs::Enter::full_window))]
+#[tactic(auto, using(score::proofs::Bits::same_is), unfolding(crate::specs::Enter::full_window))]
 fn full_window(a: Args) -> bool
     ensures { result ≡ full_window a.alpha a.beta }
 {
