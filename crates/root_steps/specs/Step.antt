@@ -1,6 +1,7 @@
 -- The steps of a root search that visit no node, in the order of 000. Assumes nothing.
-use Rattle.std.specs.Prelude.{Bool, true, false, ◌&&◌, ◌||◌, List, ℕ, ◌-◌, eqb, ltb, ℤ, pos, neg_ℤ, ◌-ℤ◌}
+use Rattle.std.specs.Prelude.{Bool, true, false, ◌&&◌, ◌||◌, List, [], ◌∷◌, take, ℕ, ◌-◌, eqb, ltb, ℤ, pos, neg_ℤ, ◌-ℤ◌}
 use Rattle.std.specs.Int.Signed.{lt_z, le_z}
+use Rattle.std.specs.List.{list_all}
 use Rattle.std.specs.declared.ops.ControlFlow.{ControlFlow}
 use Rattle.std.specs.declared.ops.ControlFlow.TheVariants.{Continue, Break}
 use Rattle.score.specs.Wrap.{neg16}
@@ -29,9 +30,7 @@ abbrev pub fresh_of : Settings → Stats → Depths
 fresh_of set c =
     record {
       best = record { score = pos 0; mv = 0; depth = 0 };
-      one = pos 0;
-      two = pos 0;
-      three = pos 0;
+      scores = pos 0 ∷ pos 0 ∷ pos 0 ∷ [];
       state = record { nodes = 0; stop = false; stats = fresh_stats set.table c };
     }
 
@@ -44,7 +43,7 @@ mate_of set x = le_z x (neg_ℤ (mate_line set)) || le_z (mate_line set) x
 
 -- 000: "Stop the search if the position was mate at the 3 previous shallower depths", "if depth > 6"
 unfoldable pub mated_of : Settings → Depths → ℕ → Bool
-mated_of set d depth = ltb 6 depth && mate_of set d.one && mate_of set d.two && mate_of set d.three
+mated_of set d depth = ltb 6 depth && list_all (mate_of set) d.scores
 
 -- 000: "let mut alpha = -INF"
 abbrev pub begin_of : Settings → State → Walked
@@ -91,7 +90,7 @@ any_if true d = Continue d
 any_if false d = Break d
 
 abbrev pub shifted_of : Depths → Walked → Best → State → Deepened
-shifted_of d w b s = any_if w.any (record { best = b; one = score_of w; two = d.one; three = d.two; state = s })
+shifted_of d w b s = any_if w.any (record { best = b; scores = score_of w ∷ take 2 d.scores; state = s })
 
 abbrev pub kept_by : Depths → ℕ → Walked → Over State → Over Deepened
 kept_by d depth w k = over (shifted_of d w (record { score = w.alpha; mv = w.mv; depth = depth }) k.it) k.words

@@ -2,6 +2,7 @@
 #![tactic(auto)]
 
 ghost use Rattle.std.specs.Prelude.{◌≡◌, ◌≤◌, ◌<◌, length};
+ghost use Rattle.std.specs.List.{list_all};
 ghost use Rattle.tree.specs.Blocks.{Blocked, nodes_of};
 ghost use Rattle.tree.specs.Layout.{Laid};
 ghost use Rattle.state.specs.State.{over};
@@ -23,13 +24,11 @@ pub struct Best {
     pub depth: u8,
 }
 
-// What the depths leave: the last saved, the best scores of the three depths before, the state.
+// What the depths leave: the last saved, the best scores of the three depths before, the last first, the state.
 #[derive(Clone, Copy)]
 pub struct Depths {
     pub best: Best,
-    pub one: i16,
-    pub two: i16,
-    pub three: i16,
+    pub scores: [i16; 3],
     pub state: State,
 }
 
@@ -63,9 +62,7 @@ pub fn fresh(set: Settings, stats: Stats) -> Depths
             mv: 0,
             depth: 0,
         },
-        one: 0,
-        two: 0,
-        three: 0,
+        scores: [0; 3],
         state: State {
             nodes: 0,
             stop: false,
@@ -84,12 +81,19 @@ fn mate(set: Settings, score: i16) -> bool
     score <= -line || line <= score
 }
 
+// Whether each score is one of a mate.
+fn mates(set: Settings, scores: &[i16]) -> bool
+    ensures { result ≡ list_all (mate_of set) scores.now }
+{
+    scores.iter().all(|x| mate(set, *x))
+}
+
 // Above depth 6: the score was one of a mate at the three depths before.
 #[tactic(auto, unfolding(crate::specs::Step::mated_of))]
 pub fn mated(set: Settings, d: Depths, depth: u8) -> bool
     ensures { result ≡ mated_of set d depth }
 {
-    6 < depth && mate(set, d.one) && mate(set, d.two) && mate(set, d.three)
+    6 < depth && mates(set, &d.scores)
 }
 
 // Alpha is -INF, and no move was made.
@@ -181,15 +185,13 @@ fn score_of(w: Walked) -> i16
 }
 
 // One depth on, unless no move was made.
-#[tactic(auto, unfolding(crate::specs::Step::any_if))]
+#[tactic(auto, using(crate::proofs::Scores::newest), unfolding(crate::specs::Step::any_if))]
 fn shifted(d: Depths, w: Walked, best: Best, state: State) -> Deepened
     ensures { result ≡ shifted_of d w best state }
 {
     let next = Depths {
         best,
-        one: score_of(w),
-        two: d.one,
-        three: d.two,
+        scores: [score_of(w), d.scores[0], d.scores[1]],
         state,
     };
     if w.any {
