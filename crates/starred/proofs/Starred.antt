@@ -58,7 +58,7 @@ puts depth from words hash mv score bound long =
     ∙ ap (λ (n : ℕ). table_of (put (clear_of words).words (slot_of n hash) hash (new_entry (zeroed 0) depth score mv bound)) (inserted (zeroed 0))) (clear_length words)
 
 pub starred : Starred
-unfolding next_age ticks.new_of ticks.start_of ticks.poll_of poll_of le record_at count_of flags_of eval_of move_of hash_of in_check is_quiet nodes_of wrap16 neg16 sub16 add16 eq_z first_of is_draw count_node seen_of keep_of consult_of place_of order_at child_of hint_place step.pat_if step.delta_prunes step.delta_if step.ply_if step.cut_if step.patted_if step.stop_if step.enter_of step.bound_if step.store_if step.finish_if captures.walk_f captures.entered_f captures.captures_f enter.extended enter.extend_of enter.full_window enter.reverse_futile enter.reverse_if enter.cut_if enter.probe_of enter.draw_if enter.enter_of enter.deepens_of enter.hinted_of end_if finish_if search.walk_f search.deepen_if search.entered_f search.depth_if search.stop_if search.visit_f fresh_stats mate_of mated_of place_root root.raise_if root.judge_of score_if kept_of stopped_if first_if saved_if rootF.stop_if rootF.walk_f depth_f over_if mate_if depths_f root_search scan game_end reset_of entries.clear_of bound_of data_word entry_of slot_of replaces find_of looked inserted lookup_of store_if store_of by_bound use_if sized_to range_right everywhere is_given mate quiet
+unfolding next_age ticks.new_of ticks.start_of ticks.poll_of poll_of le record_at count_of flags_of eval_of move_of hash_of in_check is_quiet nodes_of wrap16 neg16 sub16 add16 eq_z first_of is_draw count_node seen_of keep_of consult_of place_of order_at child_of hint_place step.pat_if step.delta_prunes step.delta_if step.ply_if step.cut_if step.beta_if step.patted step.stop_if step.enter_of step.bound_if step.store_if step.finish_if captures.walk_f captures.entered_f captures.captures_f enter.extended enter.extend_of enter.full_window enter.reverse_futile enter.reverse_if enter.cut_if enter.probe_of enter.draw_if enter.enter_of enter.deepens_of enter.hinted_of end_if finish_if search.walk_f search.deepen_if search.entered_f search.depth_if search.stop_if search.visit_f fresh_stats mate_of mated_of place_root root.raise_if root.judge_of score_if root.any_if kept_of stopped_if first_if saved_if rootF.stop_if rootF.walk_f depth_f over_if mate_if depths_f root_search scan game_end reset_of entries.clear_of bound_of data_word entry_of slot_of replaces find_of looked inserted lookup_of store_if store_of by_bound use_if sized_to range_right everywhere is_given mate quiet
 starred =
     record {
       data_word_lem = example_words.0;
