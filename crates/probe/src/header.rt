@@ -10,6 +10,15 @@ use record::bytes;
 use state::Settings;
 use table::Stats;
 
+// The maxima: bytes of a tree, words of a table, entries of a history, steps of a script.
+pub const TREE: usize = 66048;
+
+pub const WORDS: usize = 131074;
+
+pub const ENTRIES: usize = 8193;
+
+pub const STEPS: usize = 4096;
+
 #[derive(Clone, Copy)]
 pub struct Header {
     pub kind: u8,
@@ -151,7 +160,7 @@ pub fn read(head: &[u8; 96]) -> Header
 fn kind_right(h: Header) -> bool
     ensures { result ≡ kind_right h }
 {
-    1 <= h.kind && h.kind <= 7 && (4 < h.kind || h.steps == 0)
+    (1..=7).contains(&h.kind) && (4 < h.kind || h.steps == 0)
 }
 
 // No length over its maximum.
@@ -159,7 +168,7 @@ fn kind_right(h: Header) -> bool
 fn lengths_right(h: Header) -> bool
     ensures { result ≡ lengths_right h }
 {
-    h.tree <= 66048 && h.words <= 131074 && h.entries <= 8193 && h.steps <= 4096
+    h.tree <= TREE && h.words <= WORDS && h.entries <= ENTRIES && h.steps <= STEPS
 }
 
 #[tactic(auto, unfolding(crate::specs::Header::header_right))]

@@ -4,15 +4,21 @@
 mod answers; // answers.rt: kinds 1 to 4
 mod header; // header.rt: a request's header
 
-ghost use Rattle.std.specs.Prelude.{◌≡◌, length};
-ghost use Rattle.probe.specs.Room.{Roomy};
-
-use header::{Header, Kind};
+use header::{ENTRIES, Header, Kind, STEPS, TREE, WORDS};
 use probe_input::input;
 use probe_input::input::Unfilled;
 use probe_scripts::{clock_script, history_script, table_script};
 use probe_text::stop::Stop;
 use std::io::Input;
+
+// What requests are read into: each part holds the longest that a right header announces.
+#[derive(Drop)]
+struct Room {
+    tree: [u8; TREE],
+    words: [u64; WORDS],
+    history: [i16; ENTRIES],
+    steps: [u8; 24 * STEPS],
+}
 
 // Answers a request whose body has been read.
 fn answer(
@@ -63,96 +69,59 @@ fn body(
     answer(rt, h, tree, words, history, steps)
 }
 
-// The request of a header, over buffers that hold the longest.
+// The request of a header, over the start of each array. The arrays come apart: Rattle slices no field behind a reference.
+#[tactic(auto, unfolding(crate::specs::Header::header_right, crate::specs::Header::lengths_right))]
 fn announced(
     rt: &(impl Input + Print),
     h: Header,
-    tree: &mut [u8],
-    words: &mut [u64],
-    history: &mut [i16],
-    steps: &mut [u8],
-) -> Result<(), Stop>
-    requires { Roomy tree.old words.old history.old steps.old }
-{
+    tree: &mut [u8; TREE],
+    words: &mut [u64; WORDS],
+    history: &mut [i16; ENTRIES],
+    steps: &mut [u8; 24 * STEPS],
+) -> Result<(), Stop> {
     if !header::right(h) {
         return Err(Stop::BadRequest);
     }
-    let t = h.tree;
-    let w = h.words;
-    let e = h.entries;
-    let s = 24 * h.steps;
     body(
         rt,
         h,
-        &mut tree[..t],
-        &mut words[..w],
-        &mut history[..e],
-        &mut steps[..s],
+        &mut tree[..h.tree],
+        &mut words[..h.words],
+        &mut history[..h.entries],
+        &mut steps[..24 * h.steps],
     )
 }
 
 // One request.
-fn request(
-    rt: &(impl Input + Print),
-    tree: &mut [u8],
-    words: &mut [u64],
-    history: &mut [i16],
-    steps: &mut [u8],
-) -> Result<(), Stop>
-    requires { Roomy tree.old words.old history.old steps.old }
-{
+fn request(rt: &(impl Input + Print), room: &mut Room) -> Result<(), Stop> {
     let mut head = [0u8; 96];
     input::fill(rt, &mut head).map_err(|u| head_cut(u))?;
+    let Room {
+        tree,
+        words,
+        history,
+        steps,
+    } = room;
     announced(rt, header::read(&head), tree, words, history, steps)
 }
 
 // Nothing says that the input ends, so the requests are counted up to a number that no run reaches.
-fn requests(
-    rt: &(impl Input + Print),
-    tree: &mut [u8],
-    words: &mut [u64],
-    history: &mut [i16],
-    steps: &mut [u8],
-) -> Result<(), Stop>
-    requires { Roomy tree.old words.old history.old steps.old }
-{
+fn requests(rt: &(impl Input + Print), room: &mut Room) -> Result<(), Stop> {
     for _ in 0..u64::MAX {
-        request(rt, tree, words, history, steps)?;
+        request(rt, room)?;
     }
     Ok(())
 }
 
-// The buffers. Each contract gives the length alone, which lending an array as a slice needs.
-fn tree_buffer() -> [u8; 66048]
-    ensures { 66048 ≡ length result }
-{
-    [0; 66048]
-}
-
-fn words_buffer() -> [u64; 131074]
-    ensures { 131074 ≡ length result }
-{
-    [0; 131074]
-}
-
-fn history_buffer() -> [i16; 8193]
-    ensures { 8193 ≡ length result }
-{
-    [0; 8193]
-}
-
-fn steps_buffer() -> [u8; 98304]
-    ensures { 98304 ≡ length result }
-{
-    [0; 98304]
-}
-
+// The one room, 1.2 MB, is a local of main: a function that returned it would copy it.
 fn main(rt: HostRuntime) {
-    let mut tree = tree_buffer();
-    let mut words = words_buffer();
-    let mut history = history_buffer();
-    let mut steps = steps_buffer();
-    if let Err(stop) = requests(&rt, &mut tree, &mut words, &mut history, &mut steps) {
+    let mut room = Room {
+        tree: [0; TREE],
+        words: [0; WORDS],
+        history: [0; ENTRIES],
+        steps: [0; 24 * STEPS],
+    };
+    if let Err(stop) = requests(&rt, &mut room) {
         let _ = stop.tell(&rt);
     }
 }
