@@ -69,7 +69,7 @@ fn delta_prunes(set: Settings, eval: i16, a: Capture) -> bool
 fn stand_pat(set: Settings, eval: i16, a: Capture) -> ControlFlow<i16, i16>
     ensures { result ≡ stand_pat set eval a }
 {
-    if set.max_ply as usize <= a.ply {
+    if usize::from(set.max_ply) <= a.ply {
         return ControlFlow::Break(eval);
     }
     if delta_prunes(set, eval, a) {
@@ -146,15 +146,14 @@ fn noisy(tree: &[u8], first: usize, place: Option<usize>) -> Option<usize>
 }
 
 // The hint's place, if it is a noisy child.
-#[tactic(auto, using(tree::proofs::Blocked::record_in, moves::proofs::Kids::kids_within), unfolding(crate::specs::Step::noisy_place))]
+#[tactic(auto, using(tree::proofs::Blocked::record_in, crate::proofs::Steps::hint_in), unfolding(crate::specs::Step::noisy_place))]
 pub fn noisy_place(tree: &[u8], here: Here, loc: Loc) -> Option<usize>
     requires laid { Laid tree.now }
     requires node_bound { here.node < nodes_of tree.now }
     ensures { result ≡ noisy_place tree.now here loc }
 {
-    let first = node::first_child(tree, here.node);
-    let count = node::child_count(tree, here.node);
-    noisy(tree, first, moves::place_of(tree, first, count, loc.mv))
+    let place = moves::hint_place(tree, here.node, loc.mv);
+    noisy(tree, node::first_child(tree, here.node), place)
 }
 
 pub fn counted(loc: Loc) -> State

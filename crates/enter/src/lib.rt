@@ -46,7 +46,7 @@ fn reverse_margin(tree: &[u8], here: Here) -> i16
     ensures { result ≡ margin tree.now here }
 {
     let k = here.node;
-    let m = add16(here.beta, 75 * (here.depth as i16));
+    let m = add16(here.beta, 75 * i16::from(here.depth));
     if node::is_improving(tree, k) {
         return sub16(m, 20);
     }
@@ -160,14 +160,11 @@ pub fn hinted(tree: &[u8], words: &[u64], set: Settings, here: Here, loc: Loc, r
 }
 
 // The hint's place, if it is a child.
-#[tactic(auto, using(tree::proofs::Blocked::record_in, moves::proofs::Kids::kids_within), unfolding(crate::specs::Enter::hint_place))]
+#[tactic(auto, unfolding(crate::specs::Enter::hint_place))]
 pub fn hint_place(tree: &[u8], here: Here, loc: Loc) -> Option<usize>
     requires laid { Laid tree.now }
     requires node_bound { here.node < nodes_of tree.now }
     ensures { result ≡ hint_place tree.now here loc }
 {
-    let k = here.node;
-    let first = node::first_child(tree, k);
-    let count = node::child_count(tree, k);
-    moves::place_of(tree, first, count, loc.mv)
+    moves::hint_place(tree, here.node, loc.mv)
 }

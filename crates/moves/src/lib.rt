@@ -2,7 +2,9 @@
 #![tactic(auto)]
 
 ghost use Rattle.std.specs.Prelude.{◌≡◌, ◌+◌, ◌≤◌, ◌<◌};
+ghost use Rattle.record.specs.Node.{first_of, count_of};
 ghost use Rattle.tree.specs.Blocks.{Blocked, nodes_of};
+ghost use Rattle.tree.specs.Layout.{Laid};
 ghost use Rattle.moves.specs.Order.{place_of, order_at, child_of};
 
 use record::node;
@@ -17,12 +19,26 @@ pub fn place_of(tree: &[u8], first: usize, count: usize, hint: u16) -> Option<us
     if hint == 0 {
         return None;
     }
+    let mut place = None;
     for i in 0..count {
         if node::move_to(tree, first + i) == hint {
-            return Some(i);
+            place = Some(i);
+            break;
         }
     }
-    None
+    place
+}
+
+// The place of a hint among the children of a node.
+#[tactic(auto, using(tree::proofs::Blocked::record_in, crate::proofs::Kids::kids_within))]
+pub fn hint_place(tree: &[u8], k: usize, hint: u16) -> Option<usize>
+    requires laid { Laid tree.now }
+    requires k_bound { k < nodes_of tree.now }
+    ensures { result ≡ place_of tree.now (first_of tree.now k) (count_of tree.now k) hint }
+{
+    let first = node::first_child(tree, k);
+    let count = node::child_count(tree, k);
+    place_of(tree, first, count, hint)
 }
 
 // Which child is the i-th to be tried.

@@ -109,15 +109,13 @@ pub fn begin(set: Settings, state: State) -> Walked
 }
 
 // The place of the move saved before.
-#[tactic(auto, using(tree::proofs::Blocked::record_in, moves::proofs::Kids::kids_within), unfolding(crate::specs::Step::place_root))]
+#[tactic(auto, unfolding(crate::specs::Step::place_root))]
 pub fn place_of(tree: &[u8], best: Best) -> Option<usize>
     requires laid { Laid tree.now }
     requires tree_nonzero { 0 < nodes_of tree.now }
     ensures { result ≡ place_root tree.now best }
 {
-    let first = node::first_child(tree, 0);
-    let count = node::child_count(tree, 0);
-    moves::place_of(tree, first, count, best.mv)
+    moves::hint_place(tree, 0, best.mv)
 }
 
 pub fn polled(set: Settings, w: Walked) -> Walked

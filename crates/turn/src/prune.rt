@@ -16,7 +16,7 @@ fn below_alpha(here: Here, loc: Loc) -> bool
     requires { here.depth < 6 }
     ensures { result ≡ lt_z (add16 here.eval (pos (50 * here.depth))) loc.alpha }
 {
-    add16(here.eval, 50 * (here.depth as i16)) < loc.alpha
+    add16(here.eval, 50 * i16::from(here.depth)) < loc.alpha
 }
 
 // Whether a quiet later move can't reach alpha.
@@ -72,7 +72,7 @@ pub fn reduction(tree: &[u8], set: Settings, here: Here, c: usize, i: usize) -> 
         + u8::from(node::in_check(tree, k))
         + u8::from(node::in_check(tree, c));
     held(
-        reductions::reduction(here.depth as usize, i + 1),
+        reductions::reduction(usize::from(here.depth), i + 1),
         less,
         here.depth - 1,
     )
