@@ -1,4 +1,4 @@
-// The searches, as public entries: each takes any bytes and numbers and gives its result, or the number of 01's refusal.
+// The searches, as public entries: each takes any bytes and numbers and gives its answer, or 01's refusal.
 #![tactic(auto)]
 
 pub mod node_search; // node_search.rt: the node search, with demand 3
