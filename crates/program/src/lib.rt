@@ -39,14 +39,14 @@ pub fn fresh() -> Stats
     Stats::default()
 }
 
-// Depths 1 to 30, over a table of 4,096 entries and a history of its own. The age and counters after it are the definition's.
-pub fn search(tree: &[u8]) -> Result<RootAnswer, Refusal>
-    ensures { let whole = (program_entry tree.now).it in told_root result whole.stats ≡ whole }
+// Depths 1 to 30, over a table of 4,096 entries and a history of its own; the age and counters after it.
+pub fn search(tree: &[u8]) -> (Result<RootAnswer, Refusal>, Stats)
+    ensures { told_root result.0 result.1 ≡ (program_entry tree.now).it }
 {
     let mut words = [0u64; 8192];
     let mut history = [0i16; 8192];
     let mut stats = fresh();
-    root_search::search_root(
+    let told = root_search::search_root(
         tree,
         &mut words,
         &mut history,
@@ -54,7 +54,8 @@ pub fn search(tree: &[u8]) -> Result<RootAnswer, Refusal>
         &mut stats,
         1,
         31,
-    )
+    );
+    (told, stats)
 }
 
 // The line that answers a tree, at the start of out; how many bytes it has.
@@ -62,7 +63,8 @@ pub fn answer(tree: &[u8], out: &mut [u8; 160]) -> usize
     ensures prefix_len { IsPrefixLen result out.new }
     ensures out_after { take result out.new ≡ program_line tree.now }
 {
-    let line = text::line(search(tree));
+    let (told, _) = search(tree);
+    let line = text::line(told);
     let bytes = line.as_str().as_bytes();
     out[..bytes.len()].copy_from_slice(bytes);
     bytes.len()
@@ -73,6 +75,7 @@ pub fn answer(tree: &[u8], out: &mut [u8; 160]) -> usize
 pub fn print<W: Write>(to: &mut W, tree: &[u8]) -> io::Result<()>
     ensures { OnOk result (Appends (W.contents to.old) (W.contents to.new) (program_line tree.now)) }
 {
-    let line = text::line(search(tree));
+    let (told, _) = search(tree);
+    let line = text::line(told);
     to.write_all(line.as_str().as_bytes())
 }
