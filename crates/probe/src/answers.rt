@@ -4,6 +4,7 @@ use desk::{node_search, root_search};
 use probe_text::fnv;
 use probe_text::stop::Stop;
 use probe_text::text::Line;
+use refusal::Refusal;
 use results::{NodeAnswer, RootAnswer};
 use table::Stats;
 
@@ -14,9 +15,11 @@ fn lent(line: &mut Line, stats: Stats, words: &[u64], history: &[i16]) {
     line.hex_field(b" history ", fnv::sum(history));
 }
 
-fn root_line(refusal: u8, a: RootAnswer) -> Line {
+// A refused search found nothing.
+fn root_line(told: Result<RootAnswer, Refusal>) -> Line {
+    let a = told.unwrap_or_default();
     let mut line = Line::new();
-    line.field(b"root ", refusal);
+    line.field(b"root ", refusal::number_told(told.map(|_| ())));
     line.field(b" score ", a.score);
     line.field(b" move ", a.mv);
     line.field(b" depth ", a.depth);
@@ -24,15 +27,6 @@ fn root_line(refusal: u8, a: RootAnswer) -> Line {
     line.field(b" stopped ", u8::from(a.stopped));
     line
 }
-
-// A refused search found nothing.
-const NO_ROOT: RootAnswer = RootAnswer {
-    score: 0,
-    mv: 0,
-    depth: 0,
-    nodes: 0,
-    stopped: false,
-};
 
 pub fn root(
     rt: &impl Print,
@@ -43,29 +37,21 @@ pub fn root(
 ) -> Result<(), Stop> {
     let mut stats = h.stats;
     let told = root_search::search_root(tree, words, history, h.set, &mut stats, h.start, h.end);
-    let mut line = match told {
-        Ok(a) => root_line(0, a),
-        Err(r) => root_line(r.number(), NO_ROOT),
-    };
+    let mut line = root_line(told);
     lent(&mut line, stats, words, history);
     line.write(rt)?;
     Ok(())
 }
 
-fn node_line(refusal: u8, a: NodeAnswer) -> Line {
+fn node_line(told: Result<NodeAnswer, Refusal>) -> Line {
+    let a = told.unwrap_or_default();
     let mut line = Line::new();
-    line.field(b"node ", refusal);
+    line.field(b"node ", refusal::number_told(told.map(|_| ())));
     line.field(b" score ", a.score);
     line.field(b" nodes ", a.nodes);
     line.field(b" stopped ", u8::from(a.stopped));
     line
 }
-
-const NO_NODE: NodeAnswer = NodeAnswer {
-    score: 0,
-    nodes: 0,
-    stopped: false,
-};
 
 pub fn node(
     rt: &impl Print,
@@ -76,10 +62,7 @@ pub fn node(
 ) -> Result<(), Stop> {
     let mut stats = h.stats;
     let told = node_search::search_node(tree, words, history, h.set, &mut stats, h.at);
-    let mut line = match told {
-        Ok(a) => node_line(0, a),
-        Err(r) => node_line(r.number(), NO_NODE),
-    };
+    let mut line = node_line(told);
     lent(&mut line, stats, words, history);
     line.write(rt)?;
     Ok(())

@@ -1,9 +1,9 @@
 // Reading whole parts of standard input.
-ghost use Rattle.std.specs.Prelude.{◌≡◌, ℕ, ◌+◌, ◌*◌, ◌<◌, ◌≤◌, List, length};
+ghost use Rattle.std.specs.Prelude.{◌≡◌, ℕ, ◌+◌, ◌*◌, ◌<◌, ◌≤◌, List, length, refl};
 ghost use Rattle.std.proofs.Common.{rules};
 ghost use Rattle.record.specs.Bytes.{le};
 ghost use Rattle.probe_input.specs.Fields.{signed16_at};
-ghost use Rattle.probe_input.specs.Sent.{items_from};
+ghost use Rattle.probe_input.specs.Sent.{items_from, words_from, entries_from};
 
 use record::bytes;
 use std::io;
@@ -32,11 +32,16 @@ pub trait Number: Copy {
 
     ghost read_at: { List ℕ → ℕ → Self };
 
+    // The first numbers of a chunk, put into items from a place on.
+    ghost put: { List ℕ → List Self → ℕ → ℕ → List Self };
+
     fn read(chunk: &[u8; 4096], at: usize) -> Self
         requires { at + WIDTH ≤ 4096 }
         ensures { result ≡ read_at chunk.now at };
 
     ghost fits: { (0 < WIDTH) × (WIDTH ≤ 8) };
+
+    ghost put_is: { (chunk : List ℕ) (items : List Self) (at n : ℕ) → items_from read_at WIDTH chunk items at n ≡ put chunk items at n };
 }
 
 impl Number for u64 {
@@ -46,7 +51,11 @@ impl Number for u64 {
 
     ghost read_at = { λ s at. le s at 8 };
 
+    ghost put = { words_from };
+
     ghost fits = { Prim.search rules };
+
+    ghost put_is = { λ chunk items at n. refl };
 
     fn read(chunk: &[u8; 4096], at: usize) -> u64 {
         bytes::le::<8>(chunk, at)
@@ -60,7 +69,11 @@ impl Number for i16 {
 
     ghost read_at = { signed16_at };
 
+    ghost put = { entries_from };
+
     ghost fits = { Prim.search rules };
+
+    ghost put_is = { λ chunk items at n. refl };
 
     fn read(chunk: &[u8; 4096], at: usize) -> i16 {
         (bytes::le::<2>(chunk, at) as u16).cast_signed()
@@ -86,7 +99,7 @@ pub fn fill(rt: &impl Input, buf: &mut [u8]) -> Result<(), Unfilled> {
 #[tactic(auto, unfolding(crate::specs::Sent::items_from))]
 fn decode<T: Number>(chunk: &[u8; 4096], items: &mut [T])
     requires { T.WIDTH * length items.old ≤ 4096 }
-    ensures { items.new ≡ items_from T.read_at T.WIDTH chunk.now items.old 0 (length items.old) }
+    ensures { items.new ≡ T.put chunk.now items.old 0 (length items.old) }
 {
     for (i, x) in items.iter_mut().enumerate() {
         *x = T::read(chunk, T::WIDTH * i);

@@ -83,11 +83,8 @@ fn clock_line(refusal: u8, t: Tick) -> Line {
 fn step_on(rt: &impl Print, clock: Clock, s: Step) -> Result<Clock, Stop> {
     let operation = Operation::try_from(s.operation)?;
     let told = one(clock, operation, s);
-    let (refusal, t) = match told {
-        Ok(t) => (0, t),
-        Err(r) => (r.number(), went(clock)),
-    };
-    clock_line(refusal, t).write(rt)?;
+    let t = told.unwrap_or(went(clock));
+    clock_line(refusal::number_told(told.map(|_| ())), t).write(rt)?;
     Ok(t.clock)
 }
 

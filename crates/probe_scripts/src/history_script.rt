@@ -28,13 +28,9 @@ impl TryFrom<u8> for Operation {
 
 // The start of an answer's line: the refusal's number, and the number that was told, which is 0 where it was refused.
 fn answer(name: &[u8], word: &[u8], told: Result<i16, Refusal>) -> Line {
-    let (refusal, x) = match told {
-        Ok(x) => (0, x),
-        Err(r) => (r.number(), 0),
-    };
     let mut line = Line::new();
-    line.field(name, refusal);
-    line.field(word, x);
+    line.field(name, refusal::number_told(told.map(|_| ())));
+    line.field(word, told.unwrap_or_default());
     line
 }
 

@@ -52,7 +52,7 @@ fn entry_fields(line: &mut Line, e: Entry) {
     line.field(b" depth ", e.depth);
     line.field(b" score ", e.score);
     line.field(b" move ", e.mv);
-    line.field(b" bound ", e.bound as u8);
+    line.field(b" bound ", u8::from(e.bound));
     line.field(b" entry-age ", e.age);
 }
 

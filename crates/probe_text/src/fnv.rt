@@ -1,7 +1,8 @@
 // FNV-1a, 64 bits, over little-endian bytes.
-ghost use Rattle.std.specs.Prelude.{◌≡◌, ℕ};
-ghost use Rattle.std.specs.Int.{w16, cast_unsigned};
-ghost use Rattle.probe_text.specs.Fnv.{bytes_into, sum_of};
+ghost use Rattle.std.specs.Prelude.{◌≡◌, ℕ, List, refl};
+ghost use Rattle.std.specs.Int.{w16};
+ghost use Rattle.score.specs.Bits.{bits_of};
+ghost use Rattle.probe_text.specs.Fnv.{bytes_into, sum_of, of_words, of_entries};
 
 const BASIS: u64 = 14695981039346656037;
 
@@ -15,8 +16,13 @@ pub trait Summed: Copy {
 
     ghost bits: { Self → ℕ };
 
+    // The sum over many.
+    ghost sum: { List Self → ℕ };
+
     fn bits(self) -> u64
         ensures { result ≡ bits self };
+
+    ghost sum_is: { (items : List Self) → sum_of bits WIDTH items ≡ sum items };
 }
 
 impl Summed for u64 {
@@ -25,6 +31,10 @@ impl Summed for u64 {
     ghost WIDTH = { 8 };
 
     ghost bits = { λ x. x };
+
+    ghost sum = { of_words };
+
+    ghost sum_is = { λ items. refl };
 
     fn bits(self) -> u64 {
         self
@@ -36,7 +46,11 @@ impl Summed for i16 {
 
     ghost WIDTH = { 2 };
 
-    ghost bits = { λ x. cast_unsigned w16 x };
+    ghost bits = { λ x. bits_of w16 x };
+
+    ghost sum = { of_entries };
+
+    ghost sum_is = { λ items. refl };
 
     fn bits(self) -> u64 {
         u64::from(self.cast_unsigned())
@@ -59,7 +73,7 @@ fn after(sum: u64, x: u64, n: usize) -> u64
 
 #[tactic(auto, unfolding(crate::specs::Fnv::sum_of))]
 pub fn sum<T: Summed>(items: &[T]) -> u64
-    ensures { result ≡ sum_of T.bits T.WIDTH items.now }
+    ensures { result ≡ T.sum items.now }
 {
     items
         .iter()

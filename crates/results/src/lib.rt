@@ -2,7 +2,7 @@
 #![tactic(auto)]
 
 // A node search's.
-#[derive(Clone, Copy, Debug, PartialEq, Eq)]
+#[derive(Clone, Copy, PartialEq, Eq, Debug, Default)]
 pub struct NodeAnswer {
     pub score: i16,
     pub nodes: u64,
@@ -10,7 +10,7 @@ pub struct NodeAnswer {
 }
 
 // A root search's. `depth` is the last one whose move was saved; where none was, score, move and depth are 0.
-#[derive(Clone, Copy, Debug, PartialEq, Eq)]
+#[derive(Clone, Copy, PartialEq, Eq, Debug, Default)]
 pub struct RootAnswer {
     pub score: i16,
     pub mv: u16,
