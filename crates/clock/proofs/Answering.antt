@@ -21,5 +21,6 @@ module _ (c : Clock) (nodes now : ℕ) where
         finished = f;
       }
 
-  pub not_yet : {up : Bool} → 100 < nodes - c.last → up ≡ time_up c now → up ≡ false → stopped (lookedAt c.finished) ≡ stopped (poll_clock (looks c nodes) c nodes now)
+  pub not_yet : {up : Bool} → 100 < nodes - c.last → up ≡ time_up c now → up ≡ false
+      → stopped (lookedAt c.finished) ≡ stopped (poll_clock (looks c nodes) c nodes now)
   not_yet l e f = rw (lt-ltb _ _ l, ← e, f)
