@@ -1,2 +1,4 @@
+pub mod Laws
+pub mod Answering
 pub mod Kept
 pub mod Examples

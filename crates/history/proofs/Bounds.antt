@@ -7,7 +7,7 @@ use native.Mathlib.Omega.{arith}
 use borrow.Author.Tests.{leb-true, leb-false}
 use lib.Dec.{leb}
 use lib.IntN.{ℤ, pos, negsuc, neg_ℤ, nat_abs, sub_ℕ, ◌+ℤ◌, ◌*ℤ◌}
-use lib.Signed.{nat_abs-le, quot_z}
+use lib.Signed.{mag, nat_abs-le, quot_z}
 use mir.Syntax.{w16, w32}
 use mir.Val.{SFits}
 use Rattle.score.proofs.Diff.{diff_neg, diff_add, diff_abs, pos_diff, up, dn, as_diff, abs_mul, abs_add, fits_abs, quot_neg}
@@ -110,6 +110,13 @@ module _ (hh : ℕ) (old v : ℤ) (f : SFits w16 old) (u : hh < 65536) (hv : nat
 
   new-abs : nat_abs (new_of hh old v) < 65536
   new-abs = omega (arith, old-size, new_far hh old v (omega arith))
+
+  pub new_mag : mag (new_of hh old v) < 65536
+  new_mag = omega (arith, mag-le (new_of hh old v), new-abs)
+    where
+      mag-le : (z : ℤ) → mag z ≤ nat_abs z
+      mag-le (pos n) = omega arith
+      mag-le (negsuc n) = omega arith
 
   pub new32 : SFits w32 (new_of hh old v)
   new32 = fits_abs w32 (new_of hh old v) (omega (arith, new-abs))

@@ -53,6 +53,13 @@ pub fn of_bits16(b: u16) -> i16
     b.cast_signed()
 }
 
+// The 8 bits of a.
+pub fn bits8(value: i8) -> u8
+    ensures { result ≡ bits_of w8 value }
+{
+    value.cast_unsigned()
+}
+
 // The signed number that 8 bits hold.
 pub fn of_bits8(byte: u8) -> i8
     ensures { result ≡ signed_of w8 byte }

@@ -1,4 +1,4 @@
--- When a lookup is a hit, and what a hit says. Assumes nothing.
+-- What a lookup finds, by its cases; and what a hit says. Assumes nothing.
 use Rattle.std.proofs.Common.{◌≡◌, ℕ, ◌+◌, Bool, true, false, cond, not, eqb, List, length, get_or, sym, refl, ap, ◌∙◌, subst, arith, eq-eqb, ne_eqb, eqb-true}
 use lib.Bits.{bit_xor}
 use borrow.Author.Tests.{eqb-false}
@@ -16,8 +16,14 @@ module _ (words : List ℕ) (hash k : ℕ) (at : k ≡ slot_of (length words) ha
       ap (λ (x : Entry). cond (eqb x.mv 0) Miss (cond (not (eqb (bit_xor (get_or words k 0) (get_or words (k + 1) 0)) hash)) Collision (Hit x))) is
       ∙ ap (λ (j : ℕ). cond (eqb (entry_of (get_or words (j + 1) 0)).mv 0) Miss (cond (not (eqb (bit_xor (get_or words j 0) (get_or words (j + 1) 0)) hash)) Collision (Hit (entry_of (get_or words (j + 1) 0))))) at
 
+  pub is_miss : e.mv ≡ 0 → Miss ≡ find_of words hash
+  is_miss p = simp (eq-eqb e.mv 0 p) at judged
+
   pub is_hit : (e.mv ≡ 0 → ⊥) → bit_xor (get_or words k 0) (get_or words (k + 1) 0) ≡ hash → Hit e ≡ find_of words hash
   is_hit n x = simp (ne_eqb e.mv 0 n, eq-eqb (bit_xor (get_or words k 0) (get_or words (k + 1) 0)) hash x) at judged
+
+  pub is_collision : (e.mv ≡ 0 → ⊥) → (bit_xor (get_or words k 0) (get_or words (k + 1) 0) ≡ hash → ⊥) → Collision ≡ find_of words hash
+  is_collision n x = simp (ne_eqb e.mv 0 n, ne_eqb (bit_xor (get_or words k 0) (get_or words (k + 1) 0)) hash x) at judged
 
 -- what a hit says: its entry is the slot's, so its fields fit; it has a move; and the slot's two words give the hash
 pub record Holds (words : List ℕ) (hash : ℕ) (e : Entry) : Type 0 where

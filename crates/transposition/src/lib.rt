@@ -54,7 +54,7 @@ impl From<Entry> for u64 {
     #[tactic(auto, unfolding(crate::specs::Word::data_word))]
     fn from(e: Entry) -> u64 {
         let bound = u8::from(e.bound);
-        let depth = e.depth.cast_unsigned();
+        let depth = score::bits8(e.depth);
         let [s0, s1] = e.score.to_le_bytes();
         let [m0, m1] = e.mv.to_le_bytes();
         u64::from_le_bytes([0, e.age, bound, depth, s0, s1, m0, m1])
@@ -71,7 +71,7 @@ impl From<u64> for Entry {
         Entry {
             age,
             bound: Bound::from(bound),
-            depth: depth.cast_signed(),
+            depth: score::of_bits8(depth),
             score: i16::from_le_bytes([s0, s1]),
             mv: u16::from_le_bytes([m0, m1]),
         }
