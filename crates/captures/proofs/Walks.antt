@@ -32,6 +32,10 @@ use Rattle.captures.specs.Captures.{Visit, judged, turn_if, turn_f, next_if, nex
 
 -- one child
 module _ (v : Visit) (set : Settings) (t : List ℕ) (h : Here) (l : Loc) (c : ℕ) (words : List ℕ) where
+  pub turn_quiet : is_quiet t c ≡ true → over (Continue l) words ≡ turn_f v set t h l c words
+  unfolding turn_if
+  turn_quiet e = sym (ap (λ (q : Bool). turn_if q v set t h l c words) e)
+
   pub turn_noisy : is_quiet t c ≡ false → (r : Over Out) → r ≡ v (count_node l.state) words (down_of h l c) → judged set t h l c r ≡ turn_f v set t h l c words
   unfolding turn_if
   turn_noisy e r er = ap (judged set t h l c) er ∙ sym (ap (λ (q : Bool). turn_if q v set t h l c words) e)

@@ -1,14 +1,14 @@
 -- Which refusal a search gets, by the rows' tests, and what is asked of the layers below where it gets none. Assumes nothing.
-use mathlib.Core.Path.{◌≡◌, sym, ap, ◌∙◌}
+use mathlib.Core.Path.{◌≡◌, refl, sym, ap, ◌∙◌}
 use mathlib.Core.Bool.{true}
 use mathlib.Core.List.{List}
-use Prim.Native.Nat.{ℕ, ◌≤◌}
+use Prim.Native.Nat.{ℕ, zero, suc, ◌≤◌}
 use native.Mathlib.Omega.{arith}
 use lib.IntN.{ℤ, pos, nat_abs}
 use lib.Signed.{le_z}
 use Rattle.table.specs.declared.Stats.{Stats}
 use Rattle.state.specs.declared.Settings.{Settings}
-use Rattle.carry.specs.Carry.{With}
+use Rattle.carry.specs.Carry.{With, with}
 use Rattle.visits.specs.Reach.{Ready}
 use Rattle.root_steps.specs.declared.Depths.{Depths}
 use Rattle.root.specs.Root.{root_search}
@@ -16,6 +16,7 @@ use Rattle.refusals.specs.Rows.{range_right}
 use Rattle.refusals.specs.First.{search_rows}
 use Rattle.refusals.proofs.Meaning.{search_settings_right, search_accepted, search_words, search_entries, set_hh_max_above}
 use Rattle.desk.specs.RootEntry.{root_refusal, root_given, root_answer, root_entry}
+use Rattle.results.specs.Told.{root_refused}
 
 pub from_one : (z : ℤ) → le_z (pos 1) z ≡ true → le_z (pos 0) z ≡ true
 from_one = grind arith
@@ -43,6 +44,17 @@ module _ (t words : List ℕ) (history : List ℤ) (set : Settings) (start end :
   pub root_right : root_refusal t words history set start end ≡ 0 → (search_rows t words history set ≡ 0) × (range_right start end ≡ true)
   unfolding root_refusal
   root_right = grind arith
+
+  -- the answer where a refusal is given
+  refused : (c : Stats) (n : ℕ) → (n ≡ 0 → ⊥) → with (root_refused n c) words history ≡ root_answer n t set c start end words history
+  unfolding root_answer
+  refused c zero h = absurd (h refl)
+  refused c (suc n) h = refl
+
+  pub root_refused_lem
+      : (c : Stats) (n : ℕ) → n ≡ root_refusal t words history set start end → (n ≡ 0 → ⊥)
+      → with (root_refused n c) words history ≡ root_entry t set c start end words history
+  root_refused_lem c n e h = refused c n h ∙ ap (λ (m : ℕ). root_answer m t set c start end words history) e
 
   -- the answer where none is given
   pub root_given_lem

@@ -8,7 +8,7 @@ ghost use Rattle.enter.specs.Enter.{extend_of, full_window, margin, reverse_futi
 
 use carry::{Args, Entered, Here, Loc};
 use record::node;
-use score::{add16, sub16};
+use score::{add16, same16, sub16};
 use state::{Out, Seen, Settings, State};
 use std::ops::ControlFlow;
 
@@ -30,11 +30,11 @@ pub fn extend(tree: &[u8], a: Args) -> Args
 }
 
 // A full window is one whose alpha is not beta - 1.
-#[tactic(auto, using(score::proofs::Bits::same_is), unfolding(crate::specs::Enter::full_window))]
+#[tactic(auto, unfolding(crate::specs::Enter::full_window))]
 fn full_window(a: Args) -> bool
     ensures { result ≡ full_window a.alpha a.beta }
 {
-    a.alpha != sub16(a.beta, 1)
+    !same16(a.alpha, sub16(a.beta, 1))
 }
 
 // What the evaluation must reach: beta and 75 a depth, less 20 if improving.

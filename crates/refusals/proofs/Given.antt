@@ -28,6 +28,16 @@ pub first_none : (n later : ℕ) → n ≡ 0 → later ≡ first n later
 first_none zero later e = refl
 first_none (suc n) later e = absurd (omega arith)
 
+-- the settings' row is given first, of a search and of a bonus or a malus
+
+pub search_settings : (t words : List ℕ) (history : List ℤ) (set : Settings) → settings_right set ≡ false → 6 ≡ search_rows t words history set
+unfolding search_rows
+search_settings t words history set e = rw e
+
+pub entry_settings : (history : List ℤ) (hh : ℤ) (side : ℕ) → history_settings_right hh side ≡ false → 6 ≡ entry_rows history hh side
+unfolding entry_rows
+entry_settings history hh side e = rw e
+
 -- 0 where all rules hold, and only there
 
 none_tree : (a : Bool) (n : ℕ) → unless a 6 n ≡ 0 → (a ≡ true) × (n ≡ 0)

@@ -1,5 +1,5 @@
 -- The bytes of the line that a root search's result is printed as. Assumes nothing.
-use Rattle.std.specs.Prelude.{Bool, true, false, cond, List, [], ◌∷◌, ◌++◌, ℕ, zero, suc, ◌+◌, ◌/◌, ◌%◌, ltb, ℤ, pos, negsuc}
+use Rattle.std.specs.Prelude.{◌≡◌, Bool, true, false, cond, List, [], ◌∷◌, ◌++◌, ℕ, zero, suc, ◌+◌, ◌/◌, ◌%◌, ltb, ℤ, pos, negsuc, length, take}
 use Rattle.results.specs.Told.{RootResult}
 use Prim.Native.Char.{code}
 use Prim.Native.String.{String, [] as none, ◌∷◌ as ◌then◌}
@@ -49,3 +49,8 @@ line_by (suc k) r = refused_line (suc k)
 
 abbrev pub line_of : RootResult → List ℕ
 line_of r = line_by r.refusal r
+
+-- `text` stands in `after` behind the first `at` bytes of `before`; `end` is the place behind it
+pub record Put (before : List ℕ) (at : ℕ) (text after : List ℕ) (end : ℕ) : Type 0 where
+  pub place : end ≡ at + length text
+  pub bytes : take end after ≡ take at before ++ text

@@ -1,4 +1,4 @@
--- What the rows of a record give where no refusal is given. Assumes nothing.
+-- What the rows of a record give: the tree's refusal where there is one, and what holds where none is given. Assumes nothing.
 use mathlib.Core.Path.{◌≡◌, refl}
 use mathlib.Core.Bool.{Bool, true, false}
 use mathlib.Core.List.{List}
@@ -8,8 +8,15 @@ use lib.IntN.{ℤ}
 use Rattle.tree.specs.Blocks.{nodes_of}
 use Rattle.refusals.specs.Rows.{node_right}
 use Rattle.refusals.specs.First.{first, unless, tree_rows}
+use Rattle.refusals.proofs.Given.{first_some}
 use Rattle.refusals.proofs.Meaning.{node_in}
 use Rattle.trees.specs.Records.{record_rows}
+
+-- the tree's refusal is the record's
+pub rows_tree
+    : (inf : ℤ) (maxPly : ℕ) (t : List ℕ) (node r : ℕ) → r ≡ tree_rows inf maxPly t → (r ≡ 0 → ⊥) → r ≡ record_rows inf maxPly t node
+unfolding record_rows
+rows_tree inf maxPly t node r er n = rw (← er) (first_some r (unless (node_right t node) 7 0) n)
 
 both : (n : ℕ) (b : Bool) → first n (unless b 7 0) ≡ 0 → (n ≡ 0) × (b ≡ true)
 both zero true e = (refl, refl)

@@ -13,7 +13,6 @@ use state::Settings;
 // Whether the evaluation and 50 a depth lie below alpha.
 #[tactic(auto, using(carry::proofs::Margins::margin_fits, carry::proofs::Margins::margin_is))]
 fn below_alpha(here: Here, loc: Loc) -> bool
-    requires { here.depth < 6 }
     ensures { result ≡ lt_z (add16 here.eval (pos (50 * here.depth))) loc.alpha }
 {
     add16(here.eval, 50 * i16::from(here.depth)) < loc.alpha

@@ -27,6 +27,10 @@ module _ (v : Visit) (h : Here) (l : Loc) (c : ℕ) (r : With Out) where
   unfolding widen_if
   widen_yes e q eq = eq ∙ sym (ap (λ (b : Bool). widen_if b v h l c r) e)
 
+  pub widen_no : inside_of h l r.it ≡ false → r ≡ widen_f v h l c r
+  unfolding widen_if
+  widen_no e = sym (ap (λ (b : Bool). widen_if b v h l c r) e)
+
 -- the reduced visit
 module _ (v : Visit) (h : Here) (l : Loc) (c d : ℕ) (words : List ℕ) (hist : List ℤ) (r : With Out) (er : r ≡ v l.state words hist (null_of h l c d)) where
   reduced : again_f v h l c d r ≡ reduced_f v h l c d words hist
@@ -54,6 +58,10 @@ module _ (v : Visit) (t : List ℕ) (set : Settings) (h : Here) (c i : ℕ) (l�
     futile : futile_if (futile_of t set h l c) v t set h l c i words hist ≡ turn_f v t set h c i l₀ words hist
     unfolding turn_if
     futile = sym (ap (λ (b : Bool). turn_if b v t set h l c i words hist) (ne_eqb i 0 later)) ∙ counted
+
+    pub turn_futile : futile_of t set h l c ≡ true → with (Continue l) words hist ≡ turn_f v t set h c i l₀ words hist
+    unfolding futile_if
+    turn_futile e = sym (ap (λ (b : Bool). futile_if b v t set h l c i words hist) e) ∙ futile
 
     pub turn_reduced : futile_of t set h l c ≡ false → (d : ℕ) → d ≡ reduction_at t set h c i → (r : With Out) → r ≡ reduced_f v h l c d words hist
         → judged h l (move_of t c) r ≡ turn_f v t set h c i l₀ words hist

@@ -27,6 +27,10 @@ module _ (v : Visit) (t : List ℕ) (set : Settings) (h : Here) (l : Loc) (words
   unfolding deepen_if
   deepen_yes e r er = ap (hinted t set h l) er ∙ sym (ap (λ (b : Bool). deepen_if b v t set h l words hist) e)
 
+  pub deepen_no : deepens_of set h l ≡ false → with l words hist ≡ deepen_f v t set h l words hist
+  unfolding deepen_if
+  deepen_no e = sym (ap (λ (b : Bool). deepen_if b v t set h l words hist) e)
+
 -- a visit, one unit of fuel down
 visit_step : (k n : ℕ) (t : List ℕ) (set : Settings) (st : State) (words : List ℕ) (hist : List ℤ) (a : Args) → n < k
     → visit_f k t set st words hist a ≡ polled_f k (visit_f (k - 1) t set) t set (poll_of set.limit st) words hist a
