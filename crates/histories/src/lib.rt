@@ -53,3 +53,11 @@ pub fn malus(history: &mut [i16], hh: i16, side: u16, mv: u16, depth: i8) -> Res
 {
     change(history, hh, side, mv, -delta_score(hh, depth))
 }
+
+// The number that is told of a delta or of an entry, 0 where it is refused.
+pub fn score_told(told: Result<i16, Refusal>) -> i16
+    ensures delta { result ≡ (told_delta told).delta }
+    ensures entry { result ≡ (told_entry told).entry }
+{
+    told.unwrap_or(0)
+}

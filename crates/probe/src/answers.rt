@@ -17,7 +17,7 @@ fn lent(line: &mut Line, stats: Stats, words: &[u64], history: &[i16]) {
 
 // A refused search found nothing.
 fn root_line(told: Result<RootAnswer, Refusal>) -> Line {
-    let a = told.unwrap_or_default();
+    let a = results::root_found(told);
     let mut line = Line::new();
     line.field(b"root ", refusal::number_told(told.map(|_| ())));
     line.field(b" score ", a.score);
@@ -44,7 +44,7 @@ pub fn root(
 }
 
 fn node_line(told: Result<NodeAnswer, Refusal>) -> Line {
-    let a = told.unwrap_or_default();
+    let a = results::node_found(told);
     let mut line = Line::new();
     line.field(b"node ", refusal::number_told(told.map(|_| ())));
     line.field(b" score ", a.score);

@@ -30,7 +30,7 @@ impl TryFrom<u8> for Operation {
 fn answer(name: &[u8], word: &[u8], told: Result<i16, Refusal>) -> Line {
     let mut line = Line::new();
     line.field(name, refusal::number_told(told.map(|_| ())));
-    line.field(word, told.unwrap_or_default());
+    line.field(word, histories::score_told(told));
     line
 }
 

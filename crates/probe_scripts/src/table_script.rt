@@ -114,15 +114,12 @@ fn store(rt: &impl Print, words: &mut [u64], stats: &mut Stats, t: Step) -> Resu
 // Nothing where it was refused: shares of 0.
 fn occupancy(rt: &impl Print, words: &[u64]) -> Result<(), Stop> {
     let told = tables::occupancy(words);
-    let (refusal, exact, lower, upper) = match told {
-        Ok(o) => (0, o.exact, o.lower, o.upper),
-        Err(r) => (r.number(), 0.0, 0.0, 0.0),
-    };
+    let o = tables::percentages_told(told);
     let mut line = Line::new();
-    line.field(b"occupancy ", refusal);
-    float::field(&mut line, b" exact ", exact);
-    float::field(&mut line, b" lower ", lower);
-    float::field(&mut line, b" upper ", upper);
+    line.field(b"occupancy ", refusal::number_told(told.map(|_| ())));
+    float::field(&mut line, b" exact ", o.exact);
+    float::field(&mut line, b" lower ", o.lower);
+    float::field(&mut line, b" upper ", o.upper);
     line.write(rt)?;
     Ok(())
 }

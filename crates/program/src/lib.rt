@@ -75,7 +75,7 @@ pub fn answer(tree: &[u8], out: &mut [u8; 160]) -> usize
 pub fn print<W: Write>(to: &mut W, tree: &[u8]) -> io::Result<()>
     ensures { OnOk result (Appends (W.contents to.old) (W.contents to.new) (program_line tree.now)) }
 {
-    let (told, _) = search(tree);
-    let line = text::line(told);
-    to.write_all(line.as_str().as_bytes())
+    let mut out = [0u8; 160];
+    let n = answer(tree, &mut out);
+    to.write_all(&out[..n])
 }

@@ -45,3 +45,10 @@ abbrev pub told_root : Result RootAnswer Refusal → Stats → RootResult
 told_root (Ok a) c =
     record { refusal = 0; score = a.score; mv = a.mv; depth = a.depth; nodes = a.nodes; stopped = a.stopped; stats = c }
 told_root (Err r) c = root_refused (number_of r) c
+
+-- what was found, of what is told: the numbers without the refusal's, the age and the counters
+abbrev pub node_found : NodeResult → NodeAnswer
+node_found r = record { score = r.score; nodes = r.nodes; stopped = r.stopped }
+
+abbrev pub root_found : RootResult → RootAnswer
+root_found r = record { score = r.score; mv = r.mv; depth = r.depth; nodes = r.nodes; stopped = r.stopped }

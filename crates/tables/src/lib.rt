@@ -82,3 +82,17 @@ pub fn occupancy(words: &[u64]) -> Result<Occupancy, Refusal>
     sized(words)?;
     Ok(percentages::occupancy::occupied(words))
 }
+
+// The three percentages that are told, all 0 where they are refused.
+pub fn percentages_told(told: Result<Occupancy, Refusal>) -> Occupancy
+    ensures { result ≡ (told_occupancy told).occupancy }
+{
+    match told {
+        Ok(o) => o,
+        Err(_) => Occupancy {
+            exact: 0.0,
+            lower: 0.0,
+            upper: 0.0,
+        },
+    }
+}

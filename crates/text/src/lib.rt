@@ -26,7 +26,8 @@ fn put<I: Integer>(line: &mut Line, word: &str, n: I)
     line.push_str(digits.format(n));
 }
 
-fn refused_line(refusal: u8) -> Line
+// The line of a refusal, of any number.
+pub fn refused_line(refusal: u8) -> Line
     ensures { result.bytes ≡ refused_line refusal }
 {
     let mut line = Line::new();
