@@ -92,7 +92,8 @@ pub fn search_node(
         let q = captures::captures(tree, words, set, rebuilt(s), capture_of(x));
         return q;
     }
-    match enter::enter(tree, words, set, s, x) {
+    let e = enter::enter(tree, words, set, s, x);
+    match e {
         ControlFlow::Break(o) => o,
         ControlFlow::Continue((here, loc)) => {
             let l = deepen(tree, words, history, set, here, loc);
