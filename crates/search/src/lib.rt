@@ -92,7 +92,9 @@ pub fn search_node(
         let q = captures::captures(tree, words, set, rebuilt(s), capture_of(x));
         return q;
     }
-    match enter::enter(tree, words, set, s, x) {
+    // Bound first: matched as it is returned, its two cases are packed into one place and taken apart again.
+    let e = enter::enter(tree, words, set, s, x);
+    match e {
         ControlFlow::Break(o) => o,
         ControlFlow::Continue((here, loc)) => {
             let l = deepen(tree, words, history, set, here, loc);

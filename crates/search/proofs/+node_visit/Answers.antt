@@ -184,15 +184,15 @@ search_node-returns-then-depth-eq0 t c =
     (c.captures-q.ensures k (omega (arith, h, same.0))
     ∙ ap₂ (λ (x : State) (y : Capture). captures_f k set tree x words y) c.rebuilt.ensures c.capture_of.ensures)
 
-pub search_node-enter-requires-clause-node_bound : goal.search_node-enter-requires-clause-node_bound
-search_node-enter-requires-clause-node_bound t c =
+pub search_node-enter-e-requires-clause-node_bound : goal.search_node-enter-e-requires-clause-node_bound
+search_node-enter-e-requires-clause-node_bound t c =
     let tree = c.args.tree.now in
     let same = same_after tree c.args.a c.extend-x.result c.extend-x.ensures in
     let r = c.requires.reach in
     omega (arith, r.in_tree, same.0)
 
-pub search_node-enter-requires-clause-depth_bound : goal.search_node-enter-requires-clause-depth_bound
-search_node-enter-requires-clause-depth_bound t c =
+pub search_node-enter-e-requires-clause-depth_bound : goal.search_node-enter-e-requires-clause-depth_bound
+search_node-enter-e-requires-clause-depth_bound t c =
     let tree = c.args.tree.now in
     let most = most_after tree c.args.a c.extend-x.result c.extend-x.ensures in
     let r = c.requires.reach in
@@ -203,7 +203,7 @@ search_node-deepen-l-requires t c =
     let longer : Args = c.extend-x.result in
     let stays : Stays longer c.in-Continue.here = enter_stays c.args.set c.args.tree.now c.args.words.now
     c.poll-s.result longer _ _
-    (sym c.in-Continue.is ∙ c.enter.ensures) in
+    (sym c.in-Continue.is ∙ c.enter-e.ensures) in
     let longer-same : Same longer c.args.a = same_after c.args.tree.now c.args.a longer c.extend-x.ensures in
     let longer-most : longer.depth ≤ c.args.a.depth + 1 = most_after c.args.tree.now c.args.a longer c.extend-x.ensures in
     let here-inside : Inside c.args.tree.now c.in-Continue.here = inside c.args.tree.now c.args.a longer _ c.extend-x.ensures
@@ -217,7 +217,7 @@ search_node-walk-w-requires t c =
     let longer : Args = c.extend-x.result in
     let stays : Stays longer c.in-Continue.here = enter_stays c.args.set c.args.tree.now c.args.words.now
     c.poll-s.result longer _ _
-    (sym c.in-Continue.is ∙ c.enter.ensures) in
+    (sym c.in-Continue.is ∙ c.enter-e.ensures) in
     let longer-same : Same longer c.args.a = same_after c.args.tree.now c.args.a longer c.extend-x.ensures in
     let here-inside : Inside c.args.tree.now c.in-Continue.here = inside c.args.tree.now c.args.a longer _ c.extend-x.ensures
     c.requires.reach c.if-depth-eq0.false stays in
@@ -233,7 +233,7 @@ search_node-finish-requires-clause-node_bound t c =
     let longer : Args = c.extend-x.result in
     let stays : Stays longer c.in-Continue.here = enter_stays c.args.set c.args.tree.now c.args.words.now
     c.poll-s.result longer _ _
-    (sym c.in-Continue.is ∙ c.enter.ensures) in
+    (sym c.in-Continue.is ∙ c.enter-e.ensures) in
     let here-inside : Inside c.args.tree.now c.in-Continue.here = inside c.args.tree.now c.args.a longer _ c.extend-x.ensures
     c.requires.reach c.if-depth-eq0.false stays in
     let i = here-inside in
@@ -244,7 +244,7 @@ search_node-finish-requires-clause-in_bounds t c =
     let longer : Args = c.extend-x.result in
     let stays : Stays longer c.in-Continue.here = enter_stays c.args.set c.args.tree.now c.args.words.now
     c.poll-s.result longer _ _
-    (sym c.in-Continue.is ∙ c.enter.ensures) in
+    (sym c.in-Continue.is ∙ c.enter-e.ensures) in
     let here-inside : Inside c.args.tree.now c.in-Continue.here = inside c.args.tree.now c.args.a longer _ c.extend-x.ensures
     c.requires.reach c.if-depth-eq0.false stays in
     let set = c.args.set in
@@ -260,14 +260,14 @@ pub search_node-returns-in-Break : goal.search_node-returns-in-Break
 search_node-returns-in-Break t c =
     λ k h. visit_answer k _ c.args.tree.now c.args.set c.args.st c.poll-s.result c.args.words.now c.args.history.now c.args.a
     h c.poll-s.ensures c.if-stop.false c.extend-x.result c.extend-x.ensures c.if-depth-eq0.false _
-    c.enter.ensures _ c.in-Break.is
+    c.enter-e.ensures _ c.in-Break.is
 
 pub search_node-returns-in-Continue : goal.search_node-returns-in-Continue
 search_node-returns-in-Continue t c =
     let longer : Args = c.extend-x.result in
     let stays : Stays longer c.in-Continue.here = enter_stays c.args.set c.args.tree.now c.args.words.now
     c.poll-s.result longer _ _
-    (sym c.in-Continue.is ∙ c.enter.ensures) in
+    (sym c.in-Continue.is ∙ c.enter-e.ensures) in
     let longer-same : Same longer c.args.a = same_after c.args.tree.now c.args.a longer c.extend-x.ensures in
     let longer-most : longer.depth ≤ c.args.a.depth + 1 = most_after c.args.tree.now c.args.a longer c.extend-x.ensures in
     let g = stays in
@@ -276,7 +276,7 @@ search_node-returns-in-Continue t c =
     λ k h. ap (λ x. beside x c.walk-w.new.history) c.finish.ensures
     ∙ visit_moves k _ c.args.tree.now c.args.set c.args.st c.poll-s.result c.args.words.now c.args.history.now c.args.a
     h c.poll-s.ensures c.if-stop.false (longer) c.extend-x.ensures
-    c.if-depth-eq0.false _ c.enter.ensures _ _ c.in-Continue.is
+    c.if-depth-eq0.false _ c.enter-e.ensures _ _ c.in-Continue.is
     (with c.deepen-l.result c.deepen-l.new.words c.deepen-l.new.history) (c.deepen-l.ensures (k - 1) (omega (arith, h, g.0, same.0, g.1.1.0, most)))
     (with c.walk-w.result c.walk-w.new.words c.walk-w.new.history) (c.walk-w.ensures (k - 1) (omega (arith, h, g.0, same.0)))
 
