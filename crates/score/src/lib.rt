@@ -53,7 +53,7 @@ pub fn of_bits16(b: u16) -> i16
     b.cast_signed()
 }
 
-// The 8 bits of a.
+// The 8 bits of a number, as a word holds them.
 pub fn bits8(value: i8) -> u8
     ensures { result ≡ bits_of w8 value }
 {
