@@ -1,12 +1,28 @@
 -- A request's header of 96 bytes, field by field, and which headers are right. Assumes nothing.
-use Rattle.std.specs.Prelude.{Bool, not, ◌&&◌, ◌||◌, List, ℕ, ◌/◌, ◌%◌, eqb, leb, ltb}
+use Rattle.std.specs.Prelude.{Bool, not, cond, ◌&&◌, ◌||◌, List, ℕ, ◌/◌, ◌%◌, eqb, leb, ltb, Result, Ok, Err}
 use Rattle.table.specs.declared.Stats.{Stats}
 use Rattle.record.specs.Bytes.{le}
 use Rattle.state.specs.declared.Settings.{Settings}
 use Rattle.desk.specs.declared.node_search.Start.{Start}
 use Rattle.probe_input.specs.Fields.{byte_at, signed8_at, signed16_at}
 use Rattle.probe_input.specs.declared.input.Sent.{Sent}
+use Rattle.probe_text.specs.declared.stop.Stop.{Stop}
+use Rattle.probe_text.specs.declared.stop.Stop.TheVariants.{BadRequest}
 use Rattle.probe.specs.declared.header.Header.{Header}
+use Rattle.probe.specs.declared.header.Kind.{Kind}
+use Rattle.probe.specs.declared.header.Kind.TheVariants.{Root, Node, Tree, Record, Clock, Table, History}
+
+-- the kind that a request's first byte names; any other byte is refused
+unfoldable pub kind_of : ℕ → Result Kind Stop
+kind_of byte =
+    cond (eqb byte 1) (Ok Root)
+    (cond (eqb byte 2) (Ok Node)
+    (cond (eqb byte 3) (Ok Tree)
+    (cond (eqb byte 4) (Ok Record)
+    (cond (eqb byte 5) (Ok Clock)
+    (cond (eqb byte 6) (Ok Table)
+    (cond (eqb byte 7) (Ok History)
+    (Err BadRequest)))))))
 
 -- the lowest bit
 abbrev pub odd : ℕ → Bool

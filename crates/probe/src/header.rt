@@ -1,7 +1,7 @@
 // A request's header of 96 bytes.
 ghost use Rattle.std.specs.Prelude.{◌≡◌, ◌+◌, ◌≤◌};
 ghost use Rattle.probe_input.specs.Fields.{signed16_at};
-ghost use Rattle.probe.specs.Header.{odd, settings_of, stats_of, start_of, sent_of, header_of, kind_right, lengths_right, header_right};
+ghost use Rattle.probe.specs.Header.{odd, settings_of, stats_of, start_of, sent_of, header_of, kind_of, kind_right, lengths_right, header_right};
 
 use desk::node_search::Start;
 use probe_input::input::Sent;
@@ -51,6 +51,9 @@ pub enum Kind {
 impl TryFrom<u8> for Kind {
     type Error = Stop;
 
+    ghost try_from_gives = { λ byte told. told ≡ kind_of byte };
+
+    #[tactic(auto, unfolding(crate::specs::Header::kind_of))]
     fn try_from(byte: u8) -> Result<Kind, Stop> {
         match byte {
             1 => Ok(Kind::Root),

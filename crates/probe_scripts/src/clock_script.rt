@@ -1,4 +1,7 @@
 // Kind 5: a clock script.
+ghost use Rattle.std.specs.Prelude.{◌≡◌};
+ghost use Rattle.probe_scripts.specs.Clocks.{clock_operation};
+
 use clock::Clock;
 use probe_input::step;
 use probe_input::step::Step;
@@ -20,6 +23,9 @@ enum Operation {
 impl TryFrom<u8> for Operation {
     type Error = Stop;
 
+    ghost try_from_gives = { λ byte told. told ≡ clock_operation byte };
+
+    #[tactic(auto, unfolding(crate::specs::Clocks::clock_operation))]
     fn try_from(byte: u8) -> Result<Operation, Stop> {
         match byte {
             1 => Ok(Operation::New),

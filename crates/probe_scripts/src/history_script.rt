@@ -1,4 +1,7 @@
 // Kind 7: a history script.
+ghost use Rattle.std.specs.Prelude.{◌≡◌};
+ghost use Rattle.probe_scripts.specs.Histories.{history_operation};
+
 use probe_input::step;
 use probe_input::step::Step;
 use probe_text::fnv;
@@ -16,6 +19,9 @@ enum Operation {
 impl TryFrom<u8> for Operation {
     type Error = Stop;
 
+    ghost try_from_gives = { λ byte told. told ≡ history_operation byte };
+
+    #[tactic(auto, unfolding(crate::specs::Histories::history_operation))]
     fn try_from(byte: u8) -> Result<Operation, Stop> {
         match byte {
             1 => Ok(Operation::Delta),

@@ -1,4 +1,7 @@
 // Kind 6: a table script.
+ghost use Rattle.std.specs.Prelude.{◌≡◌};
+ghost use Rattle.probe_scripts.specs.Tables.{table_operation};
+
 use percentages::rates;
 use percentages::rates::Rate;
 use probe_input::step;
@@ -25,6 +28,9 @@ enum Operation {
 impl TryFrom<u8> for Operation {
     type Error = Stop;
 
+    ghost try_from_gives = { λ byte told. told ≡ table_operation byte };
+
+    #[tactic(auto, unfolding(crate::specs::Tables::table_operation))]
     fn try_from(byte: u8) -> Result<Operation, Stop> {
         match byte {
             1 => Ok(Operation::Lookup),

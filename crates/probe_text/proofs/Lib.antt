@@ -1,3 +1,4 @@
 pub mod Floats
 pub mod Halving
 pub mod Lines
+pub mod Numbers

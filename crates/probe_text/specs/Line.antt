@@ -1,5 +1,5 @@
 -- A line of an answer: its 512 bytes, where the next one goes, and what is put into it. Assumes nothing.
-use Rattle.std.specs.Prelude.{◌≡◌, ℕ, ◌+◌, cond, List, [], ◌∷◌, nat_lt, slice_set}
+use Rattle.std.specs.Prelude.{◌≡◌, ℕ, ◌+◌, cond, List, [], ◌∷◌, ℤ, pos, negsuc, nat_lt, slice_set}
 use Rattle.io.specs.Digits.{last_digits, IsDigitCount}
 use Rattle.probe_text.specs.declared.text.Line.{Line}
 
@@ -19,3 +19,8 @@ pub record Spelled (base least x : ℕ) (before after : Line) : Type 0 where
   pub count : ℕ
   pub fewest : IsDigitCount base least x count
   pub whole : after ≡ puts (last_digits base count x) before
+
+-- the sign before a number's size
+abbrev pub sign_of : ℤ → List ℕ
+sign_of (pos n) = []
+sign_of (negsuc n) = 45 ∷ []

@@ -14,6 +14,11 @@ pub enum Stop {
 
 // Only writing answers with an error of its own; a failed read is told apart.
 impl From<io::Error> for Stop {
+    ghost use Rattle.std.specs.Prelude.{◌≡◌};
+    ghost use Rattle.probe_text.specs.declared.stop.Stop.TheVariants.{Unwritten};
+
+    ghost from_gives = { λ _ stop. stop ≡ Unwritten };
+
     fn from(_: io::Error) -> Stop {
         Stop::Unwritten
     }

@@ -1,0 +1,3 @@
+pub mod Clocks
+pub mod Histories
+pub mod Tables
