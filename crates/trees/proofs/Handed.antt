@@ -1,5 +1,5 @@
 -- What the rows of a record give: the tree's refusal where there is one, and what holds where none is given. Assumes nothing.
-use mathlib.Core.Path.{◌≡◌, refl}
+use mathlib.Core.Path.{◌≡◌, refl, ap, ◌∙◌}
 use mathlib.Core.Bool.{Bool, true, false}
 use mathlib.Core.List.{List}
 use Prim.Native.Nat.{ℕ, zero, suc, ◌<◌}
@@ -16,7 +16,9 @@ use Rattle.trees.specs.Records.{record_rows}
 pub rows_tree
     : (inf : ℤ) (maxPly : ℕ) (t : List ℕ) (node r : ℕ) → r ≡ tree_rows inf maxPly t → (r ≡ 0 → ⊥) → r ≡ record_rows inf maxPly t node
 unfolding record_rows
-rows_tree inf maxPly t node r er n = rw (← er) (first_some r (unless (node_right t node) 7 0) n)
+rows_tree inf maxPly t node r er n =
+    let rest = unless (node_right t node) 7 0 in
+    first_some r rest n ∙ ap (λ (x : ℕ). first x rest) er
 
 both : (n : ℕ) (b : Bool) → first n (unless b 7 0) ≡ 0 → (n ≡ 0) × (b ≡ true)
 both zero true e = (refl, refl)
