@@ -1,9 +1,10 @@
 // The node search (000, search_node): a node's visit walks its children, and each child is a visit again.
 #![tactic(auto)]
 
-ghost use Rattle.std.specs.Prelude.{◌≡◌, ℕ, ◌+◌, ◌-◌, ◌*◌, ◌≤◌, ◌<◌, ◌^◌};
+ghost use Rattle.std.specs.Prelude.{◌≡◌, true, ℕ, ◌+◌, ◌-◌, ◌*◌, ◌≤◌, ◌<◌, ◌^◌};
 ghost use Rattle.tree.specs.Blocks.{nodes_of};
 ghost use Rattle.moves.specs.Kid.{Kid};
+ghost use Rattle.enter.specs.Enter.{deepens_of};
 ghost use Rattle.carry.specs.Carry.{with};
 ghost use Rattle.visits.specs.Reach.{Ready, Reach, Inside, need};
 ghost use Rattle.visits.specs.Search.{capture_of, visit_f, deepen_f, walk_here, turn_f, reduced_f, widen_f};
@@ -37,7 +38,7 @@ fn rebuilt(s: State) -> State
     }
 }
 
-// What the walk goes on with after a turn, rebuilt as well.
+// What the walk begins with, and goes on with after a turn, rebuilt as well.
 fn goes_on(loc: Loc) -> Loc
     ensures { result ≡ loc }
 {
@@ -64,6 +65,8 @@ fn capture_of(a: Args) -> Capture
 }
 
 // Poll; in check, depth + 1; depth 0: captures; draw, table, reverse futility; inner deepening; moves; end of game; store.
+// Two answers are bound first: that of captures is copied more cheaply from a place apart from the others', and that of `enter`, matched
+// as it is returned, would be packed into one place and taken apart again.
 #[cycle(node_visit)]
 #[tactic(auto, using(visits::proofs::Asked::node_rules))]
 pub fn search_node(
@@ -88,16 +91,18 @@ pub fn search_node(
     let x = enter::extend(tree, a);
     let depth = x.depth;
     if depth == 0 {
-        // Bound first: an answer that is built apart from the others' place is copied more cheaply.
         let q = captures::captures(tree, words, set, rebuilt(s), capture_of(x));
         return q;
     }
-    // Bound first: matched as it is returned, its two cases are packed into one place and taken apart again.
     let e = enter::enter(tree, words, set, s, x);
     match e {
         ControlFlow::Break(o) => o,
         ControlFlow::Continue((here, loc)) => {
-            let l = deepen(tree, words, history, set, here, loc);
+            let l = if enter::deepens(set, here, loc) {
+                deepen(tree, words, history, set, here, loc)
+            } else {
+                loc
+            };
             let w = walk(tree, words, history, set, here, l);
             finish::finish(tree, words, set, here, w)
         }
@@ -106,7 +111,7 @@ pub fn search_node(
 
 // Inner deepening: in a full window without a hint, a visit of the same node, two shallower, may leave a hint in the table.
 #[cycle(node_visit)]
-#[tactic(auto, using(visits::proofs::Asked::node_rules), unfolding(visits::specs::Search::deepen_if))]
+#[tactic(auto, using(visits::proofs::Asked::node_rules))]
 fn deepen(
     tree: &[u8],
     words: &mut [u64],
@@ -117,16 +122,14 @@ fn deepen(
 ) -> Loc
     requires ready { Ready set tree.now words.old history.old }
     requires inside { Inside tree.now here }
+    requires due { deepens_of set here loc ≡ true }
     ensures { (k : ℕ) → need tree.now here.node here.depth ≤ k + 1 →
         with result words.new history.new ≡
         deepen_f (visit_f k tree.now set) tree.now set here loc words.old history.old }
 {
-    if enter::deepens(set, here, loc) {
-        let st = loc.state;
-        let r = search_node(tree, words, history, set, st, enter::inner(here, loc));
-        return enter::hinted(tree, words, set, here, loc, r);
-    }
-    loc
+    let st = loc.state;
+    let r = search_node(tree, words, history, set, st, enter::inner(here, loc));
+    enter::hinted(tree, words, set, here, loc, r)
 }
 
 // The moves in their order, until one cuts.
@@ -149,7 +152,7 @@ fn walk(
     let k = here.node;
     let n = node::child_count(tree, k);
     let place = enter::hint_place(tree, here, loc);
-    let mut l = loc;
+    let mut l = goes_on(loc);
     for i in 0..n {
         let c = moves::child(tree, k, place, i);
         match turn(tree, words, history, set, here, l, c, i) {
@@ -187,9 +190,9 @@ fn turn(
         turn_f (visit_f k tree.now set) tree.now set here c i loc words.old history.old }
 {
     let l = window::counted(loc);
-    let st = l.state;
     let mv = node::move_to(tree, c);
     if i == 0 {
+        let st = l.state;
         let r = search_node(tree, words, history, set, st, window::full(here, l, c));
         return window::judge(here, window::first(tree, l, c, r), mv, r);
     }
@@ -222,11 +225,11 @@ fn reduced(
         with result words.new history.new ≡
         reduced_f (visit_f k tree.now set) here loc c d words.old history.old }
 {
-    let st = loc.state;
-    let r = search_node(tree, words, history, set, st, window::null(here, loc, c, d));
+    let st = rebuilt(loc.state);
+    let r = visit(tree, words, history, set, st, window::null(here, loc, c, d));
     if window::again(loc, d, r) {
         let s = r.state;
-        let q = search_node(tree, words, history, set, s, window::null(here, loc, c, 0));
+        let q = visit(tree, words, history, set, s, window::null(here, loc, c, 0));
         return widened(tree, words, history, set, here, loc, c, q);
     }
     widened(tree, words, history, set, here, loc, c, r)
@@ -254,8 +257,29 @@ fn widened(
 {
     if window::inside(here, loc, r) {
         let s = r.state;
-        let q = search_node(tree, words, history, set, s, window::full(here, loc, c));
-        return q;
+        return visit(tree, words, history, set, s, window::full(here, loc, c));
     }
+    r
+}
+
+// A visit, in a function of its own. A function clears what its calls' answers need as soon as it begins, so a visit that few of its
+// paths make is made here, or in `deepen`; bound first, the answer has a place of its own.
+#[cycle(node_visit)]
+#[tactic(auto, using(visits::proofs::Asked::node_rules))]
+fn visit(
+    tree: &[u8],
+    words: &mut [u64],
+    history: &mut [i16],
+    set: Settings,
+    st: State,
+    a: Args,
+) -> Out
+    requires ready { Ready set tree.now words.old history.old }
+    requires reach { Reach tree.now a }
+    ensures { (k : ℕ) → need tree.now a.node a.depth < k →
+        with result words.new history.new ≡
+        visit_f k tree.now set st words.old history.old a }
+{
+    let r = search_node(tree, words, history, set, st, a);
     r
 }

@@ -1,4 +1,4 @@
--- The cycle of the node search (search_node, deepen, walk, turn, reduced, widened) meets its contracts. The measure of a call is the nodes that
+-- The cycle of the node search (search_node, deepen, walk, turn, reduced, widened, visit) meets its contracts. The measure of a call is the nodes that
 -- remain, then the depth, then a number for the function. Each answer cites the laws of Turns, Visits and Asked. `s` is a function's start, and p, q
 -- earlier places. Assumes nothing.
 use Prim.Native.Nat.{ℕ, ◌+◌, ◌-◌, ◌<◌, ◌≤◌}
@@ -19,16 +19,17 @@ use Rattle.carry.specs.declared.Loc.{Loc}
 use Rattle.carry.specs.Carry.{Turn, with, beside}
 use Rattle.leave.specs.Cutoff.{cutoff_of}
 use Rattle.turn.specs.Window.{judge_of}
-use Rattle.visits.specs.Reach.{Reach, Inside}
-use Rattle.visits.specs.Search.{visit_f, walk_f, turn_f, cut_of}
+use Rattle.visits.specs.Reach.{Reach, Inside, need}
+use Rattle.visits.specs.Search.{visit_f, deepen_f, walk_f, turn_f, cut_of}
 use Rattle.visits.proofs.Turns.{widen_yes, reduced_again, reduced_once, turn_first, turn_reduced, walk_next, walk_cut, walk_over}
-use Rattle.visits.proofs.Visits.{deepen_yes, visit_stop, visit_captures, visit_answer, visit_moves}
+use Rattle.visits.proofs.Visits.{deepen_yes, deepen_no, visit_stop, visit_captures, visit_answer, visit_moves}
 use Rattle.visits.proofs.Asked.{Same, Stays, still_ready, same_after, most_after, enter_stays, inside, to_captures, deep_enough, to_inner, to_full, to_null, kid_at, reduction_most}
 use Rattle.search.proofs.+node_visit.Goals as goal
+use Rattle.search.proofs.+node_visit.Goals.{search_node-then-deepens, search_node-else-deepens}
 
 pub deepen-inner-requires : goal.deepen-inner-requires
 deepen-inner-requires t c =
-    let d = deep_enough c.args.set c.args.here c.args.loc (sym c.deepens.ensures ∙ c.if-deepens.true) in
+    let d = deep_enough c.args.set c.args.here c.args.loc c.requires.due in
     omega arith
 
 pub deepen-search_node-r-requires : goal.deepen-search_node-r-requires
@@ -37,30 +38,30 @@ deepen-search_node-r-requires t c =
     let here = c.args.here in
     let loc = c.args.loc in
     let tree = c.args.tree.now in
-    let d = deep_enough set here loc (sym c.deepens.ensures ∙ c.if-deepens.true) in
+    let d = deep_enough set here loc c.requires.due in
     let e = c.inner.ensures in
     let en : c.inner.result.node ≡ here.node = ap (λ (x : Args). x.node) e in
     let ed : c.inner.result.depth ≡ here.depth - 2 = ap (λ (x : Args). x.depth) e in
     (omega (arith, c.decreases), (c.requires.ready, subst (Reach tree) (sym e) (to_inner tree here loc c.requires.inside)))
 
-pub deepen-returns-then-deepens : goal.deepen-returns-then-deepens
-deepen-returns-then-deepens t c =
+pub deepen-returns : goal.deepen-returns
+deepen-returns t c =
     let set = c.args.set in
     let here = c.args.here in
     let loc = c.args.loc in
     let tree = c.args.tree.now in
     let words = c.args.words.now in
     let history = c.args.history.now in
-    let d = deep_enough set here loc (sym c.deepens.ensures ∙ c.if-deepens.true) in
+    let d = deep_enough set here loc c.requires.due in
     let e = c.inner.ensures in
     let en : c.inner.result.node ≡ here.node = ap (λ (x : Args). x.node) e in
     let ed : c.inner.result.depth ≡ here.depth - 2 = ap (λ (x : Args). x.depth) e in
     λ k h. ap (λ (x : Loc). with x c.search_node-r.new.words c.search_node-r.new.history) c.hinted.ensures
-    ∙ deepen_yes (visit_f k tree set) tree set here loc words history (sym c.deepens.ensures ∙ c.if-deepens.true) _
+    ∙ deepen_yes (visit_f k tree set) tree set here loc words history c.requires.due _
     (c.search_node-r.ensures k (omega (arith, h)) ∙ ap (visit_f k tree set loc.state words history) e)
 
-pub reduced-search_node-r-requires : goal.reduced-search_node-r-requires
-reduced-search_node-r-requires t c =
+pub reduced-visit-r-requires : goal.reduced-visit-r-requires
+reduced-visit-r-requires t c =
     let child = c.args.c in
     let here = c.args.here in
     let d = c.args.d in
@@ -73,13 +74,13 @@ reduced-search_node-r-requires t c =
     let ed : c.null.result.depth ≡ here.depth - 1 - d = ap (λ (x : Args). x.depth) e in
     (omega (arith, c.decreases, g.above, g.in_tree, i.depth_most), (c.requires.ready, subst (Reach tree) (sym e) (to_null tree here loc child i g d)))
 
-pub reduced-search_node-q-requires : goal.reduced-search_node-q-requires
-reduced-search_node-q-requires t c =
+pub reduced-visit-q-requires : goal.reduced-visit-q-requires
+reduced-visit-q-requires t c =
     let child = c.args.c in
     let here = c.args.here in
     let set = c.args.set in
     let tree = c.args.tree.now in
-    let kept = c.search_node-r.auto in
+    let kept = c.visit-r.auto in
     let i = c.requires.inside in
     let g = c.requires.kid in
     let e = c.null-then-again.ensures in
@@ -90,8 +91,8 @@ reduced-search_node-q-requires t c =
 
 pub reduced-widened-requires : goal.reduced-widened-requires
 reduced-widened-requires t c =
-    let first = c.search_node-r.auto in
-    let again = c.search_node-q.auto in
+    let first = c.visit-r.auto in
+    let again = c.visit-q.auto in
     let words = again.words ∙ first.words in
     let history = again.history ∙ first.history in
     let set = c.args.set in
@@ -118,14 +119,15 @@ reduced-returns-then-again t c =
     let ed2 : c.null-then-again.result.depth ≡ here.depth - 1 - 0 = ap (λ (x : Args). x.depth) e2 in
     λ k h. c.widened.ensures k h
     ∙ reduced_again (visit_f k tree set) here loc child d words history _
-    (c.search_node-r.ensures k (omega (arith, h, g.above, g.in_tree, i.depth_most)) ∙ ap (visit_f k tree set loc.state words history) e)
+    (c.visit-r.ensures k (omega (arith, h, g.above, g.in_tree, i.depth_most))
+    ∙ ap₂ (λ x y. visit_f k tree set x words history y) c.rebuilt-st.ensures e)
     (sym c.again.ensures ∙ c.if-again.true) _
-    (c.search_node-q.ensures k (omega (arith, h, g.above, g.in_tree, i.depth_most))
-    ∙ ap (visit_f k tree set c.search_node-r.result.state c.search_node-r.new.words c.search_node-r.new.history) e2)
+    (c.visit-q.ensures k (omega (arith, h, g.above, g.in_tree, i.depth_most))
+    ∙ ap (visit_f k tree set c.visit-r.result.state c.visit-r.new.words c.visit-r.new.history) e2)
 
 pub reduced-widened-requires-2 : goal.reduced-widened-requires-2
 reduced-widened-requires-2 t c =
-    let kept = c.search_node-r.auto in
+    let kept = c.visit-r.auto in
     let set = c.args.set in
     let tree = c.args.tree.now in
     (omega (arith, c.decreases), (still_ready set tree _ _ _ _ c.requires.ready kept.words kept.history, (c.requires.inside, c.requires.kid)))
@@ -147,7 +149,8 @@ reduced-returns t c =
     let ed : c.null.result.depth ≡ here.depth - 1 - d = ap (λ (x : Args). x.depth) e in
     λ k h. c.widened-2.ensures k h
     ∙ reduced_once (visit_f k tree set) here loc child d words history _
-    (c.search_node-r.ensures k (omega (arith, h, g.above, g.in_tree, i.depth_most)) ∙ ap (visit_f k tree set loc.state words history) e)
+    (c.visit-r.ensures k (omega (arith, h, g.above, g.in_tree, i.depth_most))
+    ∙ ap₂ (λ x y. visit_f k tree set x words history y) c.rebuilt-st.ensures e)
     (sym c.again.ensures ∙ c.if-again.false)
 
 pub search_node-returns-then-stop : goal.search_node-returns-then-stop
@@ -210,7 +213,7 @@ search_node-deepen-l-requires t c =
     c.requires.reach c.if-depth-eq0.false stays in
     let g = stays in
     let same = longer-same in
-    (omega (arith, c.decreases, g.0, same.0, g.1.1.0, longer-most), (c.requires.ready, here-inside))
+    (omega (arith, c.decreases, g.0, same.0, g.1.1.0, longer-most), (c.requires.ready, (here-inside, sym c.deepens.ensures ∙ c.if-deepens.true)))
 
 pub search_node-walk-w-requires : goal.search_node-walk-w-requires
 search_node-walk-w-requires t c =
@@ -221,7 +224,7 @@ search_node-walk-w-requires t c =
     let longer-same : Same longer c.args.a = same_after c.args.tree.now c.args.a longer c.extend-x.ensures in
     let here-inside : Inside c.args.tree.now c.in-Continue.here = inside c.args.tree.now c.args.a longer _ c.extend-x.ensures
     c.requires.reach c.if-depth-eq0.false stays in
-    let kept = c.deepen-l.auto in
+    let kept = c.if-deepens.auto in
     let g = stays in
     let same = longer-same in
     let set = c.args.set in
@@ -252,7 +255,7 @@ search_node-finish-requires-clause-in_bounds t c =
     let r = c.requires.ready in
     let i = here-inside in
     let low = level_low set tree r.accepted c.in-Continue.here.node in
-    let kept = c.deepen-l.auto in
+    let kept = c.if-deepens.auto in
     let kept2 = c.walk-w.auto in
     (omega (arith, kept.words, kept2.words, r.words_least), (i.depth_most, omega (arith, i.ply_most, low)))
 
@@ -262,23 +265,32 @@ search_node-returns-in-Break t c =
     h c.poll-s.ensures c.if-stop.false c.extend-x.result c.extend-x.ensures c.if-depth-eq0.false _
     c.enter-e.ensures _ c.in-Break.is
 
-pub search_node-returns-in-Continue : goal.search_node-returns-in-Continue
-search_node-returns-in-Continue t c =
+pub search_node-returns-after-deepens : goal.search_node-returns-after-deepens
+search_node-returns-after-deepens t c =
     let longer : Args = c.extend-x.result in
-    let stays : Stays longer c.in-Continue.here = enter_stays c.args.set c.args.tree.now c.args.words.now
-    c.poll-s.result longer _ _
-    (sym c.in-Continue.is ∙ c.enter-e.ensures) in
-    let longer-same : Same longer c.args.a = same_after c.args.tree.now c.args.a longer c.extend-x.ensures in
-    let longer-most : longer.depth ≤ c.args.a.depth + 1 = most_after c.args.tree.now c.args.a longer c.extend-x.ensures in
-    let g = stays in
-    let same = longer-same in
-    let most = longer-most in
+    let set = c.args.set in
+    let tree = c.args.tree.now in
+    let words = c.args.words.now in
+    let history = c.args.history.now in
+    let here = c.in-Continue.here in
+    let loc = c.in-Continue.loc in
+    let stays : Stays longer here = enter_stays set tree words c.poll-s.result longer _ _ (sym c.in-Continue.is ∙ c.enter-e.ensures) in
+    let longer-same : Same longer c.args.a = same_after tree c.args.a longer c.extend-x.ensures in
+    let longer-most : longer.depth ≤ c.args.a.depth + 1 = most_after tree c.args.a longer c.extend-x.ensures in
+    let joined = with c.if-deepens.l c.if-deepens.words c.if-deepens.history in
+    let deepened : (k : ℕ) → need tree here.node here.depth ≤ k + 1 → joined ≡ deepen_f (visit_f k tree set) tree set here loc words history
+    = λ k h. elim c.if-deepens.branch [
+      | search_node-then-deepens w ↦ rw (w.l-is, w.words-is, w.history-is) (w.deepen-l.ensures k h)
+      | search_node-else-deepens w ↦
+          rw (w.l-is, w.words-is, w.history-is)
+          (deepen_no (visit_f k tree set) tree set here loc words history (sym c.deepens.ensures ∙ w.if-deepens.false))
+    ] in
     λ k h. ap (λ x. beside x c.walk-w.new.history) c.finish.ensures
-    ∙ visit_moves k _ c.args.tree.now c.args.set c.args.st c.poll-s.result c.args.words.now c.args.history.now c.args.a
-    h c.poll-s.ensures c.if-stop.false (longer) c.extend-x.ensures
+    ∙ visit_moves k _ tree set c.args.st c.poll-s.result words history c.args.a
+    h c.poll-s.ensures c.if-stop.false longer c.extend-x.ensures
     c.if-depth-eq0.false _ c.enter-e.ensures _ _ c.in-Continue.is
-    (with c.deepen-l.result c.deepen-l.new.words c.deepen-l.new.history) (c.deepen-l.ensures (k - 1) (omega (arith, h, g.0, same.0, g.1.1.0, most)))
-    (with c.walk-w.result c.walk-w.new.words c.walk-w.new.history) (c.walk-w.ensures (k - 1) (omega (arith, h, g.0, same.0)))
+    joined (deepened (k - 1) (omega (arith, h, stays.0, longer-same.0, stays.1.1.0, longer-most)))
+    (with c.walk-w.result c.walk-w.new.words c.walk-w.new.history) (c.walk-w.ensures (k - 1) (omega (arith, h, stays.0, longer-same.0)))
 
 pub turn-search_node-r-requires : goal.turn-search_node-r-requires
 turn-search_node-r-requires t c =
@@ -382,14 +394,18 @@ walk-returns-in-Break t c =
     let set = c.args.set in
     let here = c.args.here in
     let place = c.hint_place-place.result in
+    let n = c.child_count-n.result in
+    let words = c.args.words.now in
+    let history = c.args.history.now in
     λ k h. ap cut_of c.cutoff.ensures
     ∙ ap₂ (λ x y. cut_of (cutoff_of tree set here place x c.loop-i.i y c.turn.new.words c.turn.new.history)) c.child-c.ensures c.goes_on-cut.ensures
-    ∙ sym (walk_cut (visit_f k tree set) tree set here place c.child_count-n.result c.loop-i.i c.loop-i.l c.loop-i.words c.loop-i.history
+    ∙ sym (walk_cut (visit_f k tree set) tree set here place n c.loop-i.i c.loop-i.l c.loop-i.words c.loop-i.history
     (with c.turn.result c.turn.new.words c.turn.new.history) c.loop-i-test.true
     (c.turn.ensures k h ∙ ap (λ x. turn_f (visit_f k tree set) tree set here x c.loop-i.i c.loop-i.l c.loop-i.words c.loop-i.history) c.child-c.ensures)
     _ c.in-Break.is)
     ∙ c.loop-i.invariant.1.1 k h
-    ∙ ap₂ (λ x y. walk_f (visit_f k tree set) tree set here x y 0 c.args.loc c.args.words.now c.args.history.now) c.hint_place-place.ensures c.child_count-n.ensures
+    ∙ ap (λ x. walk_f (visit_f k tree set) tree set here place n 0 x words history) c.goes_on-l.ensures
+    ∙ ap₂ (λ x y. walk_f (visit_f k tree set) tree set here x y 0 c.args.loc words history) c.hint_place-place.ensures c.child_count-n.ensures
 
 pub walk-loop-i-preserved : goal.walk-loop-i-preserved
 walk-loop-i-preserved t c =
@@ -403,7 +419,7 @@ walk-loop-i-preserved t c =
       c.turn.auto.words ∙ c.loop-i.invariant.0,
       (
         c.turn.auto.history ∙ c.loop-i.invariant.1.0,
-        λ k h. ap (λ x. walk_f (visit_f k tree set) tree set here place (n - (c.loop-i.i + 1)) (c.loop-i.i + 1) x words history) c.goes_on-l.ensures
+        λ k h. ap (λ x. walk_f (visit_f k tree set) tree set here place (n - (c.loop-i.i + 1)) (c.loop-i.i + 1) x words history) c.goes_on-l-in-Continue.ensures
             ∙ sym (walk_next (visit_f k tree set) tree set here place n c.loop-i.i c.loop-i.l c.loop-i.words c.loop-i.history
             (with c.turn.result words history) c.loop-i-test.true
             (c.turn.ensures k h ∙ ap (λ x. turn_f (visit_f k tree set) tree set here x c.loop-i.i c.loop-i.l c.loop-i.words c.loop-i.history) c.child-c.ensures)
@@ -417,13 +433,17 @@ walk-returns t c =
     let tree = c.args.tree.now in
     let set = c.args.set in
     let here = c.args.here in
-    λ k h. sym (walk_over (visit_f k tree set) tree set here c.hint_place-place.result c.child_count-n.result c.loop-i.i c.loop-i.l c.loop-i.words c.loop-i.history
-    c.loop-i-test.false)
+    let place = c.hint_place-place.result in
+    let n = c.child_count-n.result in
+    let words = c.args.words.now in
+    let history = c.args.history.now in
+    λ k h. sym (walk_over (visit_f k tree set) tree set here place n c.loop-i.i c.loop-i.l c.loop-i.words c.loop-i.history c.loop-i-test.false)
     ∙ c.loop-i.invariant.1.1 k h
-    ∙ ap₂ (λ x y. walk_f (visit_f k tree set) tree set here x y 0 c.args.loc c.args.words.now c.args.history.now) c.hint_place-place.ensures c.child_count-n.ensures
+    ∙ ap (λ x. walk_f (visit_f k tree set) tree set here place n 0 x words history) c.goes_on-l.ensures
+    ∙ ap₂ (λ x y. walk_f (visit_f k tree set) tree set here x y 0 c.args.loc words history) c.hint_place-place.ensures c.child_count-n.ensures
 
-pub widened-search_node-q-requires : goal.widened-search_node-q-requires
-widened-search_node-q-requires t c =
+pub widened-visit-requires : goal.widened-visit-requires
+widened-visit-requires t c =
     let child = c.args.c in
     let here = c.args.here in
     let tree = c.args.tree.now in
@@ -451,4 +471,4 @@ widened-returns-then-inside t c =
     let en : c.full.result.node ≡ child = ap (λ (x : Args). x.node) e in
     let ed : c.full.result.depth ≡ here.depth - 1 = ap (λ (x : Args). x.depth) e in
     λ k h. widen_yes (visit_f k tree set) here loc child (with r words history) (sym c.inside.ensures ∙ c.if-inside.true) _
-    (c.search_node-q.ensures k (omega (arith, h, g.above, g.in_tree, i.depth_most)) ∙ ap (visit_f k tree set r.state words history) e)
+    (c.visit.ensures k (omega (arith, h, g.above, g.in_tree, i.depth_most)) ∙ ap (visit_f k tree set r.state words history) e)

@@ -17,6 +17,9 @@ decreases-search_node l = 8 * ((nodes_of l.tree.now - l.a.node) * 64 + l.a.depth
 abbrev pub decreases-turn : goal.decreases-turn
 decreases-turn l = 8 * ((nodes_of l.tree.now - l.here.node) * 64) + 2
 
+abbrev pub decreases-visit : goal.decreases-visit
+decreases-visit l = 8 * ((nodes_of l.tree.now - l.a.node) * 64 + l.a.depth) + 6
+
 abbrev pub decreases-walk : goal.decreases-walk
 decreases-walk l = 8 * ((nodes_of l.tree.now - l.here.node) * 64) + 3
 
