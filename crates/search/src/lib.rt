@@ -262,8 +262,8 @@ fn widened(
     r
 }
 
-// A visit, in a function of its own. A function clears what its calls' answers need as soon as it begins, so a visit that few of its
-// paths make is made here, or in `deepen`; bound first, the answer has a place of its own.
+// A later move's visit, in a function of its own, as inner deepening is: a function clears what its calls' answers need as soon as it
+// begins, also on the paths that make no such call. Bound first, the answer has a place of its own.
 #[cycle(node_visit)]
 #[tactic(auto, using(visits::proofs::Asked::node_rules))]
 fn visit(
